@@ -8,3 +8,5 @@ pub mod Made
 pub mod Undo
 pub mod Promises
 pub mod Forest
+pub mod Turning
+pub mod Undoing

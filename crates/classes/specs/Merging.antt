@@ -15,10 +15,7 @@ use Rattle.classes.specs.declared.context.Meeting.the-variants.{Apart, A
 
 -- what one class with both bounds comes to: two kinds, nothing further, or two pairs of parts
 abbrev pub meeting : Bound → Bound → Meeting
-meeting Free Free = Agree
-meeting Free Unit = Agree
-meeting Free (Sum m s) = Agree
-meeting Free (Product m s) = Agree
+meeting Free c = Agree
 meeting Unit Free = Agree
 meeting Unit Unit = Agree
 meeting Unit (Sum m s) = Apart

@@ -11,8 +11,19 @@ use Rattle.classes.specs.Made.{Within, Made, Stands}
 use Rattle.classes.specs.Undo.{rewound}
 use Rattle.classes.specs.declared.Bound.{Bound}
 use Rattle.classes.specs.declared.Mark.{Mark}
+use Rattle.classes.specs.declared.context.Added.{Added}
+use Rattle.classes.specs.declared.context.Added.the-variants.{Entry, Full}
 use Rattle.classes.specs.declared.context.Joined.{Joined}
 use Rattle.classes.specs.declared.context.Joined.the-variants.{Done, Clash as Clashed}
+
+-- adding an entry with bound b to table t: its number, or no room
+pub data AddedBy (t : Table) (b : Bound) : Added → Table → Type 0 where
+  entry : t .entries < limit t → AddedBy t b (Entry (t .entries)) (added t b)
+  full : limit t ≤ t .entries → AddedBy t b Full t
+
+abbrev pub entries-then : ℕ → Added → ℕ
+entries-then e (Entry n) = e + 1
+entries-then e Full = e
 
 -- an answer's verdict, and the links that it says were made
 abbrev pub verdict : Joined → Verdict
@@ -45,5 +56,10 @@ pub data Run : Table → Table → Type 0 where
   undoes : {t u w : Table} → Run t u → Run u w → Run t (rewound w (mark u))
 
 -- `m` was the mark of a table from which a run led to this one
-pub Marked : Table → Mark → Type 0
+unfoldable pub Marked : Table → Mark → Type 0
 Marked t m = (s : Table) × Made s × Run s t × (mark s ≡ m)
+
+-- undoing to mark m takes table t to u: the table of which m was the mark, whatever run of calls came between
+pub record Undoing (t : Table) (m : Mark) (u : Table) : Type 0 where
+  pub rewinds : u ≡ rewound t m
+  pub given-back : (s : Table) → Made s → Run s t → mark s ≡ m → u ≡ s

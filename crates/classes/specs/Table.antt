@@ -31,7 +31,7 @@ abbrev pub mark : Table → Mark
 mark t = record { entries = t .entries; links = t .links }
 
 -- where `n` steps to the parent lead
-pub climb : ℕ → List ℕ → ℕ → ℕ
+unfoldable pub climb : ℕ → List ℕ → ℕ → ℕ
 climb ℕ.zero parent a = a
 climb (ℕ.suc n) parent a = climb n parent (getD parent a 0)
 
@@ -82,7 +82,7 @@ abbrev pub shown : Table → ℕ → Bound
 shown t a = shown-at t (root t a)
 
 -- the bounds given to the first n entries
-pub bounds-in : List ℕ → List ℕ → List ℕ → ℕ → List Bound
+unfoldable pub bounds-in : List ℕ → List ℕ → List ℕ → ℕ → List Bound
 bounds-in kind left right ℕ.zero = []
 bounds-in kind left right (ℕ.suc n) = bounds-in kind left right n ++ (given-in kind left right n ∷ [])
 

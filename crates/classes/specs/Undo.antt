@@ -24,7 +24,7 @@ removed t =
     let e = t .entries - 1 in
     table (set (t .parent) e 0) (set (t .rank) e 0) (set (t .shape) e 0) (set (t .kind) e 0) (set (t .left) e 0) (set (t .right) e 0) (t .trail) e (t .links)
 
-pub times : ℕ → (Table → Table) → Table → Table
+unfoldable pub times : ℕ → (Table → Table) → Table → Table
 times ℕ.zero f t = t
 times (ℕ.suc n) f t = times n f (f t)
 

@@ -4,6 +4,15 @@
 use super::Bound;
 use super::Mark;
 use super::union_bound;
+ghost use mathlib.Core.Path.{_≡_};
+ghost use Prim.Native.Nat.{ℕ, _+_, _*_, _≤_, _<_};
+ghost use mathlib.Core.List.{List};
+ghost use lib.ListN.{length, getD, set};
+ghost use Rattle.classes.specs.Table.{table, root-in, given-in, kind-of, left-of, right-of};
+ghost use Rattle.classes.specs.Merging.{meeting, shown-by};
+ghost use Rattle.classes.specs.Made.{Made};
+ghost use Rattle.classes.specs.Promises.{AddedBy, entries-then, Joining, made-links};
+ghost use Rattle.classes.specs.Turning.{Rooted, waiting-in, pushed, PartsPushed, Linkable, Linking, Turnable, Turned, links-then, waiting-then};
 
 // What adding an entry answers: its number, or that no row is left.
 pub enum Added {
@@ -32,11 +41,15 @@ pub enum Turn {
 }
 
 // The counts of an empty table.
-pub fn empty() -> Mark {
+pub fn empty() -> Mark
+    ensures { λ r. ⌜ (r .entries ≡ 0) × (r .links ≡ 0) ⌝ }
+{
     Mark { entries: 0, links: 0 }
 }
 
-pub fn kind_of(b: Bound) -> u16 {
+pub fn kind_of(b: Bound) -> u16
+    ensures { λ r. ⌜ r ≡ kind-of b ⌝ }
+{
     match b {
         Bound::Free => 0,
         Bound::Unit => 1,
@@ -45,7 +58,9 @@ pub fn kind_of(b: Bound) -> u16 {
     }
 }
 
-pub fn left_of(b: Bound) -> u16 {
+pub fn left_of(b: Bound) -> u16
+    ensures { λ r. ⌜ r ≡ left-of b ⌝ }
+{
     match b {
         Bound::Free => 0,
         Bound::Unit => 0,
@@ -54,7 +69,9 @@ pub fn left_of(b: Bound) -> u16 {
     }
 }
 
-pub fn right_of(b: Bound) -> u16 {
+pub fn right_of(b: Bound) -> u16
+    ensures { λ r. ⌜ r ≡ right-of b ⌝ }
+{
     match b {
         Bound::Free => 0,
         Bound::Unit => 0,
@@ -73,7 +90,13 @@ pub fn add(
     right: &mut [u16],
     live: Mark,
     b: Bound,
-) -> Added {
+) -> Added
+    requires { ⌜ ((trail : List ℕ) × Made (table (now parent) (now rank) (now shape) (now kind) (now left) (now right) trail (live .entries) (live .links))) ⌝ }
+    ensures { λ r. ⌜ ((trail : List ℕ) → AddedBy
+        (table (now (parent .entry)) (now (rank .entry)) (now (shape .entry)) (now (kind .entry)) (now (left .entry)) (now (right .entry)) trail (live .entries) (live .links))
+        b r
+        (table (now (parent .exit)) (now (rank .exit)) (now (shape .exit)) (now (kind .exit)) (now (left .exit)) (now (right .exit)) trail (entries-then (live .entries) r) (live .links))) ⌝ }
+{
     let entry = live.entries;
     let e = entry as usize;
     if parent.len() <= e {
@@ -89,7 +112,10 @@ pub fn add(
 }
 
 // The bound that entry a was given.
-pub fn bound(kind: &[u16], left: &[u16], right: &[u16], a: u16) -> Bound {
+pub fn bound(kind: &[u16], left: &[u16], right: &[u16], a: u16) -> Bound
+    requires { ⌜ (a < length (now kind)) × (a < length (now left)) × (a < length (now right)) ⌝ }
+    ensures { λ r. ⌜ r ≡ given-in (now (kind .entry)) (now (left .entry)) (now (right .entry)) a ⌝ }
+{
     let e = a as usize;
     let k = kind[e];
     match k {
@@ -101,14 +127,21 @@ pub fn bound(kind: &[u16], left: &[u16], right: &[u16], a: u16) -> Bound {
 }
 
 // The bound that a's class shows.
-pub fn shown(parent: &[u16], shape: &[u16], kind: &[u16], left: &[u16], right: &[u16], a: u16) -> Bound {
+pub fn shown(parent: &[u16], shape: &[u16], kind: &[u16], left: &[u16], right: &[u16], a: u16) -> Bound
+    requires { ⌜ Rooted (now parent) a ⌝ }
+    requires { ⌜ root-in (now parent) a < length (now shape) ⌝ }
+    requires { ⌜ (getD (now shape) (root-in (now parent) a) 0 < length (now kind)) × (getD (now shape) (root-in (now parent) a) 0 < length (now left)) × (getD (now shape) (root-in (now parent) a) 0 < length (now right)) ⌝ }
+    ensures { λ r. ⌜ r ≡ given-in (now (kind .entry)) (now (left .entry)) (now (right .entry)) (getD (now (shape .entry)) (root-in (now (parent .entry)) a) 0) ⌝ }
+{
     let r = union_bound::root(parent, a);
     let s = shape[r as usize];
     bound(kind, left, right, s)
 }
 
 // What follows when one class has both bounds, the standing class's first.
-pub fn meet(stands: Bound, below: Bound) -> Meeting {
+pub fn meet(stands: Bound, below: Bound) -> Meeting
+    ensures { λ r. ⌜ r ≡ meeting stands below ⌝ }
+{
     match stands {
         Bound::Free => Meeting::Agree,
         Bound::Unit => match below {
@@ -133,7 +166,9 @@ pub fn meet(stands: Bound, below: Bound) -> Meeting {
 }
 
 // The entry whose bound the joined class shows: the standing class's own, or the other's if that one is free.
-pub fn shows(stands: Bound, own: u16, other: u16) -> u16 {
+pub fn shows(stands: Bound, own: u16, other: u16) -> u16
+    ensures { λ r. ⌜ r ≡ shown-by stands own other ⌝ }
+{
     match stands {
         Bound::Free => other,
         Bound::Unit => own,
@@ -143,12 +178,31 @@ pub fn shows(stands: Bound, own: u16, other: u16) -> u16 {
 }
 
 // Puts a pair on the table of pairs still to join.
-fn push(pending: &mut [u16], waiting: usize, a: u16, b: u16) {
+fn push(pending: &mut [u16], waiting: usize, a: u16, b: u16)
+    requires { ⌜ 2 * waiting + 2 ≤ length (now pending) ⌝ }
+    ensures { λ _. ⌜ now (pending .exit) ≡ pushed (now (pending .entry)) waiting a b ⌝ }
+{
     pending[2 * waiting] = a;
     pending[2 * waiting + 1] = b;
 }
 
-// Makes two classes one, the second below the first, and puts their parts on the table: the left pair on top.
+// Puts the parts of two bounds that met on the table, the left pair on top, and says how many pairs wait then.
+fn push_parts(pending: &mut [u16], waiting: usize, met: Meeting) -> usize
+    requires { ⌜ 2 * waiting + 4 ≤ length (now pending) ⌝ }
+    ensures { λ r. ⌜ PartsPushed (now (pending .entry)) waiting met r (now (pending .exit)) ⌝ }
+{
+    match met {
+        Meeting::Apart => waiting,
+        Meeting::Agree => waiting,
+        Meeting::Parts(l, m, r, s) => {
+            push(pending, waiting, r, s);
+            push(pending, waiting + 1, l, m);
+            waiting + 2
+        }
+    }
+}
+
+// Makes two classes one, the second below the first, and puts their parts on the table.
 fn merge(
     parent: &mut [u16],
     rank: &mut [u16],
@@ -162,26 +216,26 @@ fn merge(
     waiting: usize,
     stands: u16,
     below: u16,
-) -> Turn {
+) -> Turn
+    requires { ⌜ ((e : ℕ) × Linkable (table (now parent) (now rank) (now shape) (now kind) (now left) (now right) (now trail) e links) (now pending) waiting stands below) ⌝ }
+    ensures { λ r. ⌜ ((e : ℕ) → Linking
+        (table (now (parent .entry)) (now (rank .entry)) (now (shape .entry)) (now (kind .entry)) (now (left .entry)) (now (right .entry)) (now (trail .entry)) e links)
+        (now (pending .entry)) waiting stands below r
+        (table (now (parent .exit)) (now (rank .exit)) (now (shape .exit)) (now (kind .entry)) (now (left .entry)) (now (right .entry)) (now (trail .exit)) e (links-then links r))
+        (now (pending .exit))) ⌝ }
+{
     let own = shape[stands as usize];
     let other = shape[below as usize];
     let first = bound(kind, left, right, own);
     let second = bound(kind, left, right, other);
     let higher = union_bound::raised(rank[below as usize], rank[stands as usize]);
     let shape_then = shows(first, own, other);
-    match meet(first, second) {
-        Meeting::Apart => Turn::Clash,
-        Meeting::Agree => {
-            union_bound::link(parent, rank, shape, trail, links, below, stands, higher, shape_then);
-            Turn::Goes(waiting, links + 1)
-        }
-        Meeting::Parts(l, m, r, s) => {
-            union_bound::link(parent, rank, shape, trail, links, below, stands, higher, shape_then);
-            push(pending, waiting, r, s);
-            push(pending, waiting + 1, l, m);
-            Turn::Goes(waiting + 2, links + 1)
-        }
+    let met = meet(first, second);
+    if let Meeting::Apart = met {
+        return Turn::Clash;
     }
+    union_bound::link(parent, rank, shape, trail, links, below, stands, higher, shape_then);
+    Turn::Goes(push_parts(pending, waiting, met), links + 1)
 }
 
 // One turn of a join: takes the last pair and makes its two classes one.
@@ -196,7 +250,14 @@ fn take_turn(
     pending: &mut [u16],
     links: u16,
     waiting: usize,
-) -> Turn {
+) -> Turn
+    requires { ⌜ ((e : ℕ) × Turnable (table (now parent) (now rank) (now shape) (now kind) (now left) (now right) (now trail) e links) (now pending) waiting) ⌝ }
+    ensures { λ r. ⌜ ((e : ℕ) → Turnable (table (now (parent .entry)) (now (rank .entry)) (now (shape .entry)) (now (kind .entry)) (now (left .entry)) (now (right .entry)) (now (trail .entry)) e links) (now (pending .entry)) waiting → Turned
+        (table (now (parent .entry)) (now (rank .entry)) (now (shape .entry)) (now (kind .entry)) (now (left .entry)) (now (right .entry)) (now (trail .entry)) e links)
+        (waiting-in (now (pending .entry)) waiting) waiting r
+        (table (now (parent .exit)) (now (rank .exit)) (now (shape .exit)) (now (kind .entry)) (now (left .entry)) (now (right .entry)) (now (trail .exit)) e (links-then links r))
+        (waiting-in (now (pending .exit)) (waiting-then r))) ⌝ }
+{
     let top = waiting - 1;
     let a = union_bound::root(parent, pending[2 * top]);
     let b = union_bound::root(parent, pending[2 * top + 1]);
@@ -223,7 +284,14 @@ pub fn join(
     live: Mark,
     a: u16,
     b: u16,
-) -> Joined {
+) -> Joined
+    requires { ⌜ Made (table (now parent) (now rank) (now shape) (now kind) (now left) (now right) (now trail) (live .entries) (live .links)) ⌝ }
+    requires { ⌜ (a < live .entries) × (b < live .entries) × (2 * length (now parent) ≤ length (now pending)) ⌝ }
+    ensures { λ r. ⌜ Joining
+        (table (now (parent .entry)) (now (rank .entry)) (now (shape .entry)) (now (kind .entry)) (now (left .entry)) (now (right .entry)) (now (trail .entry)) (live .entries) (live .links))
+        a b r
+        (table (now (parent .exit)) (now (rank .exit)) (now (shape .exit)) (now (kind .entry)) (now (left .entry)) (now (right .entry)) (now (trail .exit)) (live .entries) (live .links + made-links r)) ⌝ }
+{
     let before = live.links;
     let mut links = before;
     let mut waiting: usize = 1;
