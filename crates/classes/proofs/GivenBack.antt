@@ -1,5 +1,5 @@
 -- Undoing to a mark gives back the table of that mark, number for number, after any run of calls.
-use mathlib.Core.Path.{_≡_, refl, sym, ap, _∙_}
+use mathlib.Core.Path.{_≡_, refl, ap}
 use mathlib.Core.Logic.{⊎-elim}
 use mathlib.Core.List.{List, [], _∷_, List·Memᴰ·head, List·Memᴰ·tail, List·Memᴰ·append-cases, List·Memᴰ·not-nil}
 use Prim.Native.Nat.{ℕ, suc, _+_, _-_, _*_, _≤_, _<_}
@@ -11,18 +11,18 @@ use Rattle.classes.specs.Forced.{Rule, equal}
 use Rattle.classes.specs.Table.{Table, limit, mark, added, shown-at}
 use Rattle.classes.specs.Merging.{linked, noted, shown-by, raised-rank, Verdict, Merges}
 use Rattle.classes.specs.Merging.Merges.{ends, same, stops, goes}
-use Rattle.classes.specs.Made.{Within, Made}
+use Rattle.classes.specs.Made.{Within}
 use Rattle.classes.specs.Undo.{unlinked, removed, times, rewound}
 use Rattle.classes.specs.Promises.{Run}
 use Rattle.classes.specs.Promises.Run.{here, adds, joins, undoes}
 use Rattle.classes.specs.Forest.{Forest, Blank}
 use Rattle.classes.specs.Turning.{Live}
 use Rattle.classes.specs.declared.Bound.{Bound}
-use Rattle.classes.proofs.Roots.{links-few, parent-below}
+use Rattle.classes.proofs.Roots.{links-few}
 use Rattle.classes.proofs.Forests.{Pair, merged-pair, parts-live, added-forest, linked-forest}
 use Rattle.classes.proofs.TakenBack.{put-back, put-back-past, reversible, removed-entry, times-reversible, times-added}
 
--- a link noted on the trail, where three rows were blank
+-- a link noted on the trail
 module _ (trail : List ℕ) (links below rank shape : ℕ) where
   -- what the rows say
   noted-below : 3 * links < length trail → getD (noted trail links below rank shape) (3 * links) 0 ≡ below
@@ -42,7 +42,7 @@ module _ (trail : List ℕ) (links below rank shape : ℕ) where
       let there : 3 * links + 2 < length (set (set trail (3 * links) below) (3 * links + 1) rank) = simp length-set h in
       rw getD-set-same
 
-  -- cleared, they are as they were
+  -- the rows were blank, so clearing them gives back the trail
   noted-cleared : Blank trail (3 * links) →
       set (set (set (noted trail links below rank shape) (3 * links) 0) (3 * links + 1) 0) (3 * links + 2) 0 ≡ trail
   noted-cleared blank =
@@ -76,7 +76,8 @@ unlinked-linked {t} f s b p =
 pub removed-added : {t : Table} → Forest t → t .entries < limit t → (b : Bound) → removed (added t b) ≡ t
 removed-added f h b = removed-entry (reversible f) b
 
--- `Grown s t`: table s with entries added and roots linked, in any order, is t
+-- `Grown s t`: entries added to table s and roots linked, in any order, make t. Each run of calls comes to this, so that the law
+-- of undo is proved of two kinds of step only
 data Grown (s : Table) : Table → Type 0 where
   still : Grown s s
   with-entry : {t : Table} (b : Bound) → Grown s t → t .entries < limit t → Within (t .entries) b → Grown s (added t b)
@@ -101,25 +102,26 @@ times-first : (n : ℕ) (back : Table → Table) (t : Table) {u : Table} → bac
 unfolding times
 times-first n back t e = ap (times n back) e
 
--- all that growing made can be taken back
+-- all that growing made is taken back. The last step was a link: it is the first to go. It was an entry: it goes once all links
+-- are gone, which go as if it were not there
 rewound-grown : {s t : Table} → Forest s → Grown s t → rewound t (mark s) ≡ s
 unfolding times
 rewound-grown {s} f still = simp sub-self
 rewound-grown {s} f (with-entry {t = t} b g h w) =
     let c = reversible (grown-forest f g) in
-    let (more-entries, more-links) = grown-more g in
-    let one-more : t .entries + 1 - s .entries ≡ suc (t .entries - s .entries) = omega arith in
-    let few : t .links - s .links ≤ t .links = omega arith in
-    let u : Table = times (t .links - s .links) unlinked t in
-    rw (one-more, times-added (t .links - s .links) few c b,
-        times-first (t .entries - s .entries) removed (added u b) (removed-entry (times-reversible (t .links - s .links) few c) b))
+    let new-links : ℕ = t .links - s .links in
+    let few : new-links ≤ t .links = omega arith in
+    let one-more : t .entries + 1 - s .entries ≡ suc (t .entries - s .entries) = omega (arith, grown-more g) in
+    rw (one-more, times-added new-links few c b,
+        times-first (t .entries - s .entries) removed (added (times new-links unlinked t) b)
+          (removed-entry (times-reversible new-links few c) b))
       (rewound-grown f g)
 rewound-grown {s} f (with-link {t = t} x y g p) =
-    let (more-entries, more-links) = grown-more g in
-    let one-more : t .links + 1 - s .links ≡ suc (t .links - s .links) = omega arith in
-    rw (one-more, times-first (t .links - s .links) unlinked (linked t x y) (unlinked-linked (grown-forest f g) x y p)) (rewound-grown f g)
+    let one-more : t .links + 1 - s .links ≡ suc (t .links - s .links) = omega (arith, grown-more g) in
+    rw (one-more, times-first (t .links - s .links) unlinked (linked t x y) (unlinked-linked (grown-forest f g) x y p))
+      (rewound-grown f g)
 
--- a join grows a table by links
+-- a join grows the table, by the links that it makes
 grown-merges : {s t u : Table} {ps : List Rule} {v : Verdict} → Forest t → Live t ps → Grown s t → Merges t ps v u → Grown s u
 unfolding Live
 grown-merges f l g ends = g
@@ -132,12 +134,13 @@ grown-merges f l g (goes {a = a} {b = b} ne meets m) =
       (λ r i. ⊎-elim (parts-live f a b ha hb r) (λ j. l r (List·Memᴰ·tail j)) (List·Memᴰ·append-cases _ i))
       (with-link _ _ g p) m
 
+-- the one pair that a join begins with
 one-live : (t : Table) {a b : ℕ} → a < t .entries → b < t .entries → Live t (equal a b ∷ [])
 unfolding Live
 one-live t ha hb r (List·Memᴰ·head e) = rw e (ha, hb)
 one-live t ha hb r (List·Memᴰ·tail i) = absurd (List·Memᴰ·not-nil i)
 
--- so does a run of calls: an undo in it gives back a table on the way
+-- a run of calls grows the table: each undo in it gives back a table on the way
 run-grown : {s t : Table} → Forest s → Run s t → Grown s t
 run-grown f here = still
 run-grown f (adds b r h w) = with-entry b (run-grown f r) h w
@@ -146,8 +149,8 @@ run-grown f (joins a b r ha hb m) =
     grown-merges (grown-forest f g) (one-live _ ha hb) g m
 run-grown f (undoes r q) =
     let g = run-grown f r in
-    let fu = grown-forest f g in
-    rw (rewound-grown fu (run-grown fu q)) g
+    let marked = grown-forest f g in
+    rw (rewound-grown marked (run-grown marked q)) g
 
 -- what a run of calls keeps, from a table in its forest
 pub run-forest : {s t : Table} → Forest s → Run s t → Forest t
@@ -159,5 +162,6 @@ run-entries f r = grown-more (run-grown f r) .0
 pub run-links : {s t : Table} → Forest s → Run s t → s .links ≤ t .links
 run-links f r = grown-more (run-grown f r) .1
 
+-- the law of undo
 pub undo-gives-back-the-mark : {s t : Table} → Forest s → Run s t → rewound t (mark s) ≡ s
 undo-gives-back-the-mark f r = rewound-grown f (run-grown f r)

@@ -8,6 +8,7 @@ pub mod Closing
 pub mod Counting
 pub mod Forests
 pub mod GivenBack
+pub mod Joins
 pub mod Judging
 pub mod Linking
 pub mod Pending
@@ -17,4 +18,5 @@ pub mod Rows
 pub mod Searching
 pub mod Stepping
 pub mod TakenBack
+pub mod Turns
 pub mod Waiting

@@ -4,11 +4,14 @@ use mathlib.Core.List.{List}
 use mathlib.Core.Logic.{ite, if-pos, if-neg}
 use Prim.Native.Nat.{ℕ, suc, _<_}
 use native.Mathlib.Decide.{ℕ-discrete}
+use native.Mathlib.Nat.{lt-of-lt-of-le}
 use native.Mathlib.Omega.{arith}
 use lib.ListN.{length, getD}
-use Rattle.classes.specs.Table.{climb, root-in}
+use Rattle.classes.specs.Table.{Table, climb, root-in}
+use Rattle.classes.specs.Forest.{Forest}
 use Rattle.classes.specs.Turning.{Rooted}
-use Rattle.classes.proofs.Climbing.{climb-last}
+use Rattle.classes.proofs.Climbing.{climb-last, climb-live}
+use Rattle.classes.proofs.Roots.{rising, settled}
 
 -- how many steps lead to the first entry that is its own parent, as far as `n` steps tell
 pub distance : ℕ → List ℕ → ℕ → ℕ
@@ -49,3 +52,7 @@ module _ {parent : List ℕ} {a : ℕ} (r : Rooted parent a) where
   pub parent-nearer : (getD parent a 0 ≡ a → ⊥) → distance (length parent) parent (getD parent a 0) < distance (length parent) parent a
   unfolding Ends
   parent-nearer ne = nearer (length parent) parent a (r .ends) ne
+
+-- in a forest the way up from every entry ends
+pub rooted : {t : Table} → Forest t → (a : ℕ) → a < t .entries → Rooted (t .parent) a
+rooted f a h = record { within = λ n. lt-of-lt-of-le (climb-live (rising f) n a h) (f .room); ends = settled f a h }

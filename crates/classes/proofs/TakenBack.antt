@@ -2,10 +2,10 @@
 -- added entry can be removed, and links can be taken back as if entries added after them were not there.
 use mathlib.Core.Path.{_≡_, refl, sym, ap, _∙_}
 use mathlib.Core.List.{List}
-use Prim.Native.Nat.{ℕ, suc, _+_, _-_, _*_, _≤_, _<_}
+use Prim.Native.Nat.{ℕ, _+_, _-_, _*_, _≤_, _<_}
 use native.Mathlib.Nat.{le-refl}
 use native.Mathlib.Omega.{arith}
-use lib.ListN.{length, getD, set, length-set}
+use lib.ListN.{getD, set, length-set}
 use lib.Seq.{getD-set-other, set-getD, set-set, set-comm}
 use Rattle.classes.specs.Table.{Table, limit, added, kind-of, left-of, right-of}
 use Rattle.classes.specs.Undo.{unlinked, removed, times}
@@ -17,14 +17,15 @@ use Rattle.classes.proofs.Rows.{row-set, set-blank}
 pub put-back : (rows : List ℕ) (i v w : ℕ) → getD rows i 0 ≡ w → set (set rows i v) i w ≡ rows
 put-back rows i v w was = set-set rows i v w ∙ ap (λ (x : ℕ). set rows i x) (sym was) ∙ set-getD rows i 0
 
-pub blank-again : (rows : List ℕ) (n v : ℕ) → Blank rows n → set (set rows n v) n 0 ≡ rows
-blank-again rows n v blank = put-back rows n v 0 (blank n (le-refl n))
-
 -- also where another row was set in between
 pub put-back-past : (rows : List ℕ) (i v j x w : ℕ) → (j ≡ i → ⊥) → getD rows i 0 ≡ w →
     set (set (set rows i v) j x) i w ≡ set rows j x
 put-back-past rows i v j x w apart was =
     set-comm (set rows i v) j i x w apart ∙ ap (λ (l : List ℕ). set l j x) (put-back rows i v w was)
+
+-- and where it was the first of the blank rows
+blank-again : (rows : List ℕ) (n v : ℕ) → Blank rows n → set (set rows n v) n 0 ≡ rows
+blank-again rows n v blank = put-back rows n v 0 (blank n (le-refl n))
 
 -- numbers name entries, and nothing is past the last entry
 pub record Reversible (t : Table) : Type 0 where
@@ -66,12 +67,14 @@ last-stands t = getD (t .parent) (last-below t) 0
 
 -- one link taken back
 module _ {t : Table} (c : Reversible t) (some : 0 < t .links) where
+  -- both roots are entries
   below-live : last-below t < t .entries
   below-live = c .belows (t .links - 1) (omega arith)
 
   stands-live : last-stands t < t .entries
   stands-live = c .parents (last-below t) below-live
 
+  -- the links before it still name entries, so the next one can be taken back too
   unlinked-belows : (j : ℕ) → j < t .links - 1 → getD (unlinked t .trail) (3 * j) 0 < t .entries
   unlinked-belows j h =
       let not-below : 3 * j ≡ 3 * (t .links - 1) → ⊥ = omega arith in
@@ -82,8 +85,8 @@ module _ {t : Table} (c : Reversible t) (some : 0 < t .links) where
   unlinked-reversible : Reversible (unlinked t)
   unlinked-reversible = record {
     room = rw length-set (c .room);
-    parents = λ a h. row-set (λ (x : ℕ). x < t .entries) (t .parent) (last-below t) (last-below t) a (omega (arith, below-live, c .room))
-        (λ _. below-live) (λ _. c .parents a h);
+    parents = λ a h. row-set (λ (x : ℕ). x < t .entries) (t .parent) (last-below t) (last-below t) a
+        (omega (arith, below-live, c .room)) (λ _. below-live) (λ _. c .parents a h);
     belows = unlinked-belows;
     parent-blank = set-blank (t .parent) _ _ _ _ below-live (le-refl _) (c .parent-blank);
     rank-blank = set-blank (t .rank) _ _ _ _ stands-live (le-refl _) (c .rank-blank);
@@ -96,23 +99,24 @@ module _ {t : Table} (c : Reversible t) (some : 0 < t .links) where
   unlinked-added : (b : Bound) → unlinked (added t b) ≡ added (unlinked t) b
   unlinked-added b =
       let e : ℕ = t .entries in
-      let new-below : e ≡ last-below t → ⊥ = omega (arith, below-live) in
-      let new-stands : e ≡ last-stands t → ⊥ = omega (arith, stands-live) in
-      rw (getD-set-other (t .parent) e (last-below t) e 0 (λ same. new-below (sym same))) (λ i. record {
-        parent = set-comm (t .parent) e (last-below t) e (last-below t) new-below i;
-        rank = set-comm (t .rank) e (last-stands t) 0 (getD (t .trail) (3 * (t .links - 1) + 1) 0) new-stands i;
-        shape = set-comm (t .shape) e (last-stands t) e (getD (t .trail) (3 * (t .links - 1) + 2) 0) new-stands i;
+      let not-below : e ≡ last-below t → ⊥ = omega (arith, below-live) in
+      let not-stands : e ≡ last-stands t → ⊥ = omega (arith, stands-live) in
+      rw (getD-set-other (t .parent) e (last-below t) e 0 (λ same. not-below (sym same))) (λ i. record {
+        parent = set-comm (t .parent) e (last-below t) e (last-below t) not-below i;
+        rank = set-comm (t .rank) e (last-stands t) 0 (getD (t .trail) (3 * (t .links - 1) + 1) 0) not-stands i;
+        shape = set-comm (t .shape) e (last-stands t) e (getD (t .trail) (3 * (t .links - 1) + 2) 0) not-stands i;
         kind = added t b .kind; left = added t b .left; right = added t b .right;
         trail = unlinked t .trail; entries = e + 1; links = t .links - 1 })
 
--- some links taken back
+-- some links taken back, one after another
 pub times-reversible : (n : ℕ) {t : Table} → n ≤ t .links → Reversible t → Reversible (times n unlinked t)
 unfolding times
 times-reversible ℕ.zero h c = c
 times-reversible (ℕ.suc n) h c = times-reversible n (omega arith) (unlinked-reversible c (omega arith))
 
 -- they go the same way before an entry is added and after
-pub times-added : (n : ℕ) {t : Table} → n ≤ t .links → Reversible t → (b : Bound) → times n unlinked (added t b) ≡ added (times n unlinked t) b
+pub times-added : (n : ℕ) {t : Table} → n ≤ t .links → Reversible t → (b : Bound) →
+    times n unlinked (added t b) ≡ added (times n unlinked t) b
 unfolding times
 times-added ℕ.zero h c b = refl
 times-added (ℕ.suc n) h c b =

@@ -65,11 +65,17 @@ linked t stands below =
       (t .entries) (t .links + 1)
 
 -- of two roots, the one that stands and the one that goes below
+abbrev pub upper-in : List ℕ → ℕ → ℕ → ℕ
+upper-in rank a b = ite (decLt (getD rank a 0) (getD rank b 0)) b a
+
+abbrev pub lower-in : List ℕ → ℕ → ℕ → ℕ
+lower-in rank a b = ite (decLt (getD rank a 0) (getD rank b 0)) a b
+
 abbrev pub upper : Table → ℕ → ℕ → ℕ
-upper t a b = ite (decLt (getD (t .rank) a 0) (getD (t .rank) b 0)) b a
+upper t a b = upper-in (t .rank) a b
 
 abbrev pub lower : Table → ℕ → ℕ → ℕ
-lower t a b = ite (decLt (getD (t .rank) a 0) (getD (t .rank) b 0)) a b
+lower t a b = lower-in (t .rank) a b
 
 -- what the classes of two entries come to, the standing one's bound first
 abbrev pub meet : Table → ℕ → ℕ → Meeting

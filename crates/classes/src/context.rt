@@ -9,7 +9,7 @@ ghost use Prim.Native.Nat.{ℕ, _+_, _*_, _≤_, _<_};
 ghost use mathlib.Core.List.{List};
 ghost use lib.ListN.{length, getD, set};
 ghost use Rattle.classes.specs.Table.{table, root-in, given-in, kind-of, left-of, right-of};
-ghost use Rattle.classes.specs.Merging.{meeting, shown-by};
+ghost use Rattle.classes.specs.Merging.{meeting, shown-by, upper-in, lower-in};
 ghost use Rattle.classes.specs.Made.{Made};
 ghost use Rattle.classes.specs.Promises.{AddedBy, entries-then, Joining, made-links};
 ghost use Rattle.classes.specs.Turning.{Rooted, waiting-in, pushed, PartsPushed, Linkable, Linking, Turnable, Turned, links-then, waiting-then};
@@ -32,6 +32,12 @@ pub enum Meeting {
     Apart,
     Agree,
     Parts(u16, u16, u16, u16),
+}
+
+// Two roots in the order in which they are linked.
+pub struct Ranked {
+    pub stands: u16,
+    pub below: u16,
 }
 
 // What one turn of a join leaves: the pairs waiting and the links made, or a clash.
@@ -177,6 +183,18 @@ pub fn shows(stands: Bound, own: u16, other: u16) -> u16
     }
 }
 
+// Of two roots, the one that stands and the one that goes below it: the higher rank stands, on equal ranks the first.
+fn by_rank(rank: &[u16], a: u16, b: u16) -> Ranked
+    requires { ⌜ (a < length (now rank)) × (b < length (now rank)) ⌝ }
+    ensures { λ r. ⌜ (r .stands ≡ upper-in (now (rank .entry)) a b) × (r .below ≡ lower-in (now (rank .entry)) a b) ⌝ }
+{
+    if rank[a as usize] < rank[b as usize] {
+        Ranked { stands: b, below: a }
+    } else {
+        Ranked { stands: a, below: b }
+    }
+}
+
 // Puts a pair on the table of pairs still to join.
 fn push(pending: &mut [u16], waiting: usize, a: u16, b: u16)
     requires { ⌜ 2 * waiting + 2 ≤ length (now pending) ⌝ }
@@ -264,11 +282,10 @@ fn take_turn(
     if a == b {
         return Turn::Goes(top, links);
     }
-    if rank[a as usize] < rank[b as usize] {
-        merge(parent, rank, shape, kind, left, right, trail, pending, links, top, b, a)
-    } else {
-        merge(parent, rank, shape, kind, left, right, trail, pending, links, top, a, b)
-    }
+    let two = by_rank(rank, a, b);
+    let stands = two.stands;
+    let below = two.below;
+    merge(parent, rank, shape, kind, left, right, trail, pending, links, top, stands, below)
 }
 
 // Joins the classes of a and b, and all that follows from it.
