@@ -19,4 +19,5 @@ pub mod Searching
 pub mod Stepping
 pub mod TakenBack
 pub mod Turns
+pub mod Undos
 pub mod Waiting
