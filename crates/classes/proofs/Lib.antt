@@ -12,6 +12,7 @@ pub mod Joins
 pub mod Judging
 pub mod Linking
 pub mod Pending
+pub mod Premises
 pub mod Rewinding
 pub mod Roots
 pub mod Rows
@@ -20,4 +21,5 @@ pub mod Stepping
 pub mod TakenBack
 pub mod Turns
 pub mod Undos
+pub mod Unique
 pub mod Waiting

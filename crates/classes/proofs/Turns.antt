@@ -127,8 +127,7 @@ module _ {t : Table} {pending : List ℕ} {w : ℕ} (c : Turnable t pending w) w
         rw (waiting-top pending w (c .some)) (rw (l .1) (stops differ (l .0)))
     turn-links (Goes x k) u pending′ l n =
         let parts = l .2 .pairs-first in
-        let more : k ≡ t .links + 1 = sym n ∙ ap (λ (y : Table). y .links) (l .1) in
-        (
+        let more : k ≡ t .links + 1 = sym n ∙ ap (λ (y : Table). y .links) (l .1) in (
           (λ v z m.
               rw (waiting-top pending w (c .some))
               (goes differ (l .0) (subst (λ (ps : List Rule). Merges (merged t a b) ps v z) parts (subst (λ (y : Table). Merges y (waiting-in pending′ x) v z) (l .1) m)))),

@@ -57,12 +57,12 @@ linked t stands below =
     let own = getD (t .shape) stands 0 in
     let other = getD (t .shape) below 0 in
     table
-      (set (t .parent) below stands)
-      (set (t .rank) stands (raised-rank (getD (t .rank) below 0) (getD (t .rank) stands 0)))
-      (set (t .shape) stands (shown-by (shown-at t stands) own other))
-      (t .kind) (t .left) (t .right)
-      (noted (t .trail) (t .links) below (getD (t .rank) stands 0) own)
-      (t .entries) (t .links + 1)
+    (set (t .parent) below stands)
+    (set (t .rank) stands (raised-rank (getD (t .rank) below 0) (getD (t .rank) stands 0)))
+    (set (t .shape) stands (shown-by (shown-at t stands) own other))
+    (t .kind) (t .left) (t .right)
+    (noted (t .trail) (t .links) below (getD (t .rank) stands 0) own)
+    (t .entries) (t .links + 1)
 
 -- of two roots, the one that stands and the one that goes below
 abbrev pub upper-in : List ℕ → ℕ → ℕ → ℕ

@@ -28,20 +28,20 @@ pub enum Joined {
 }
 
 // What two bounds in one class come to: two kinds that differ, nothing further, or two pairs of parts to join.
-pub enum Meeting {
+enum Meeting {
     Apart,
     Agree,
     Parts(u16, u16, u16, u16),
 }
 
 // Two roots in the order in which they are linked.
-pub struct Ranked {
-    pub stands: u16,
-    pub below: u16,
+struct Ranked {
+    stands: u16,
+    below: u16,
 }
 
 // What one turn of a join leaves: the pairs waiting and the links made, or a clash.
-pub enum Turn {
+enum Turn {
     Clash,
     Goes(usize, u16),
 }
@@ -50,10 +50,13 @@ pub enum Turn {
 pub fn empty() -> Mark
     ensures { λ r. ⌜ (r .entries ≡ 0) × (r .links ≡ 0) ⌝ }
 {
-    Mark { entries: 0, links: 0 }
+    Mark {
+        entries: 0,
+        links: 0,
+    }
 }
 
-pub fn kind_of(b: Bound) -> u16
+fn kind_of(b: Bound) -> u16
     ensures { λ r. ⌜ r ≡ kind-of b ⌝ }
 {
     match b {
@@ -64,7 +67,7 @@ pub fn kind_of(b: Bound) -> u16
     }
 }
 
-pub fn left_of(b: Bound) -> u16
+fn left_of(b: Bound) -> u16
     ensures { λ r. ⌜ r ≡ left-of b ⌝ }
 {
     match b {
@@ -75,7 +78,7 @@ pub fn left_of(b: Bound) -> u16
     }
 }
 
-pub fn right_of(b: Bound) -> u16
+fn right_of(b: Bound) -> u16
     ensures { λ r. ⌜ r ≡ right-of b ⌝ }
 {
     match b {
@@ -133,7 +136,14 @@ pub fn bound(kind: &[u16], left: &[u16], right: &[u16], a: u16) -> Bound
 }
 
 // The bound that a's class shows.
-pub fn shown(parent: &[u16], shape: &[u16], kind: &[u16], left: &[u16], right: &[u16], a: u16) -> Bound
+pub fn shown(
+    parent: &[u16],
+    shape: &[u16],
+    kind: &[u16],
+    left: &[u16],
+    right: &[u16],
+    a: u16,
+) -> Bound
     requires { ⌜ Rooted (now parent) a ⌝ }
     requires { ⌜ root-in (now parent) a < length (now shape) ⌝ }
     requires { ⌜ (getD (now shape) (root-in (now parent) a) 0 < length (now kind)) × (getD (now shape) (root-in (now parent) a) 0 < length (now left)) × (getD (now shape) (root-in (now parent) a) 0 < length (now right)) ⌝ }
@@ -145,34 +155,30 @@ pub fn shown(parent: &[u16], shape: &[u16], kind: &[u16], left: &[u16], right: &
 }
 
 // What follows when one class has both bounds, the standing class's first.
-pub fn meet(stands: Bound, below: Bound) -> Meeting
+fn meet(stands: Bound, below: Bound) -> Meeting
     ensures { λ r. ⌜ r ≡ meeting stands below ⌝ }
 {
     match stands {
         Bound::Free => Meeting::Agree,
         Bound::Unit => match below {
-            Bound::Free => Meeting::Agree,
-            Bound::Unit => Meeting::Agree,
-            Bound::Sum(_, _) => Meeting::Apart,
-            Bound::Product(_, _) => Meeting::Apart,
+            Bound::Free | Bound::Unit => Meeting::Agree,
+            Bound::Sum(_, _) | Bound::Product(_, _) => Meeting::Apart,
         },
         Bound::Sum(l, r) => match below {
             Bound::Free => Meeting::Agree,
-            Bound::Unit => Meeting::Apart,
             Bound::Sum(m, s) => Meeting::Parts(l, m, r, s),
-            Bound::Product(_, _) => Meeting::Apart,
+            Bound::Unit | Bound::Product(_, _) => Meeting::Apart,
         },
         Bound::Product(l, r) => match below {
             Bound::Free => Meeting::Agree,
-            Bound::Unit => Meeting::Apart,
-            Bound::Sum(_, _) => Meeting::Apart,
             Bound::Product(m, s) => Meeting::Parts(l, m, r, s),
+            Bound::Unit | Bound::Sum(_, _) => Meeting::Apart,
         },
     }
 }
 
 // The entry whose bound the joined class shows: the standing class's own, or the other's if that one is free.
-pub fn shows(stands: Bound, own: u16, other: u16) -> u16
+fn shows(stands: Bound, own: u16, other: u16) -> u16
     ensures { λ r. ⌜ r ≡ shown-by stands own other ⌝ }
 {
     match stands {
@@ -189,9 +195,15 @@ fn by_rank(rank: &[u16], a: u16, b: u16) -> Ranked
     ensures { λ r. ⌜ (r .stands ≡ upper-in (now (rank .entry)) a b) × (r .below ≡ lower-in (now (rank .entry)) a b) ⌝ }
 {
     if rank[a as usize] < rank[b as usize] {
-        Ranked { stands: b, below: a }
+        Ranked {
+            stands: b,
+            below: a,
+        }
     } else {
-        Ranked { stands: a, below: b }
+        Ranked {
+            stands: a,
+            below: b,
+        }
     }
 }
 
@@ -252,7 +264,17 @@ fn merge(
     if let Meeting::Apart = met {
         return Turn::Clash;
     }
-    union_bound::link(parent, rank, shape, trail, links, below, stands, higher, shape_then);
+    union_bound::link(
+        parent,
+        rank,
+        shape,
+        trail,
+        links,
+        below,
+        stands,
+        higher,
+        shape_then,
+    );
     Turn::Goes(push_parts(pending, waiting, met), links + 1)
 }
 
@@ -285,7 +307,20 @@ fn take_turn(
     let two = by_rank(rank, a, b);
     let stands = two.stands;
     let below = two.below;
-    merge(parent, rank, shape, kind, left, right, trail, pending, links, top, stands, below)
+    merge(
+        parent,
+        rank,
+        shape,
+        kind,
+        left,
+        right,
+        trail,
+        pending,
+        links,
+        top,
+        stands,
+        below,
+    )
 }
 
 // Joins the classes of a and b, and all that follows from it.
@@ -317,7 +352,18 @@ pub fn join(
         if waiting == 0 {
             return Joined::Done(links - before);
         }
-        let Turn::Goes(w, l) = take_turn(parent, rank, shape, kind, left, right, trail, pending, links, waiting) else {
+        let Turn::Goes(w, l) = take_turn(
+            parent,
+            rank,
+            shape,
+            kind,
+            left,
+            right,
+            trail,
+            pending,
+            links,
+            waiting,
+        ) else {
             return Joined::Clash(links - before);
         };
         waiting = w;

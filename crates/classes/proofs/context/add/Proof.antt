@@ -1,9 +1,7 @@
 -- `classes::context::add` meets its contract: a made table has as many rows in each slice.
-use mathlib.Core.Path.{_≡_, refl, sym, subst}
-use mathlib.Core.List.{List}
+use mathlib.Core.Path.{_≡_}
 use Prim.Native.Nat.{ℕ, _+_, _<_}
-use native.Mathlib.Omega.{arith}
-use lib.ListN.{length, set}
+use lib.ListN.{set}
 use Rattle.classes.specs.Table.{Table, table, limit, kind-of, left-of, right-of}
 use Rattle.classes.specs.Forest.{Forest}
 use Rattle.classes.specs.Promises.{AddedBy}
@@ -14,11 +12,6 @@ use Rattle.classes.proofs.Closing.{made-good}
 use borrow.Author.Needs.{needs}
 use Rattle.classes.proofs.context.add.Statement.{statement}
 use Rattle.classes.proofs.context.add.Tie as tie
-use Rattle.classes.proofs.context.add.Reads as reads
-use Rattle.classes.proofs.context.add.Lts as lts
-use Rattle.classes.proofs.context.kind_of.Reads as kind-of-reads
-use Rattle.classes.proofs.context.left_of.Reads as left-of-reads
-use Rattle.classes.proofs.context.right_of.Reads as right-of-reads
 
 abbrev forest : (c : tie.Start) → Forest (table (c .args .parent .now) (c .args .rank .now) (c .args .shape .now) (c .args .kind .now) (c .args .left .now) (c .args .right .now) (c .pre .0) (c .args .live .entries) (c .args .live .links))
 forest c = made-good (c .pre .1) .forest

@@ -1,5 +1,5 @@
 -- `classes::context::merge` meets its contract.
-use mathlib.Core.Path.{_≡_, refl, sym, ap, _∙_, subst}
+use mathlib.Core.Path.{_≡_, refl, sym, _∙_, subst}
 use mathlib.Core.List.{[], _∷_}
 use mathlib.Core.Logic.{⊎-elim}
 use Prim.Native.Nat.{ℕ}
@@ -17,15 +17,6 @@ use Rattle.classes.proofs.Turns.{shape-rows-there, rank-fits, met-as, l
 use borrow.Author.Needs.{needs}
 use Rattle.classes.proofs.context.merge.Statement.{statement}
 use Rattle.classes.proofs.context.merge.Tie as tie
-use Rattle.classes.proofs.context.merge.Reads as reads
-use Rattle.classes.proofs.context.merge.Lts as lts
-use Rattle.classes.proofs.context.bound.Reads as bound-reads
-use Rattle.classes.proofs.context.meet.Reads as meet-reads
-use Rattle.classes.proofs.context.push_parts.Reads as push-parts-reads
-use Rattle.classes.proofs.context.shows.Reads as shows-reads
-use Rattle.classes.proofs.union_bound.link.Reads as link-reads
-use Rattle.classes.proofs.union_bound.raised.Reads as raised-reads
-
 
 -- the places on the way: the calls from the last to the first, and the start
 abbrev start : tie.After-slice-known7 → tie.Start
@@ -130,7 +121,7 @@ same-length-5 : tie.Need-same-length-5
 same-length-5 c = search needs
 
 returns-2 : tie.Need-returns-2
-returns-2 c = 
+returns-2 c =
     let l = joined (pushed c) in
     let m = met l in
     let start = start (first m .before) in
