@@ -5,5 +5,6 @@ pub mod Meant
 pub mod Answers
 pub mod Texts
 pub mod States
+pub mod Applying
 pub mod Calls
 pub mod Runs

@@ -8,7 +8,7 @@ ghost use mathlib.Core.Path.{_≡_};
 ghost use mathlib.Core.List.{List, [], _∷_};
 ghost use Prim.Native.Nat.{ℕ, _+_, _^_, _≤_, _<_};
 ghost use lib.ListN.{getD};
-ghost use Rattle.classes.specs.declared.Bound.the-variants.{Free};
+ghost use Rattle.classes.specs.declared.Bound.the-variants.{Free, Sum, Product};
 ghost use Rattle.types.specs.Layout.{Row, says, adds, children, arrow, Proper};
 ghost use Rattle.types.specs.Meant.{meant, meant-entries, meant-needs, meant-rule};
 ghost use Rattle.types.specs.declared.Node.the-variants.{Iden, InjL, InjR, Take, Drop, Comp, Case, AssertL, AssertR, Pair, Disconnect, DisconnectHole, Witness, Fail, Word};
@@ -61,15 +61,21 @@ pub struct Adds {
 const ONE: u16 = 0;
 const POWER_256: u16 = 9;
 
-fn says(number: u16, one: u16, other: u16) -> Rule {
+fn says(number: u16, one: u16, other: u16) -> Rule
+    ensures { λ r. ⌜ r ≡ record { number = number; one = one; other = other } ⌝ }
+{
     Rule { number, one, other }
 }
 
-fn from_to(source: u16, target: u16) -> Arrow {
+fn from_to(source: u16, target: u16) -> Arrow
+    ensures { λ r. ⌜ r ≡ arrow source target ⌝ }
+{
     Arrow { source, target }
 }
 
-fn two_entries(count: u16, b0: Bound, b1: Bound) -> Entries {
+fn two_entries(count: u16, b0: Bound, b1: Bound) -> Entries
+    ensures { λ r. ⌜ r ≡ record { count = count; b0 = b0; b1 = b1; b2 = Free; b3 = Free; b4 = Free; b5 = Free; b6 = Free; b7 = Free } ⌝ }
+{
     Entries {
         count,
         b0,
@@ -83,15 +89,21 @@ fn two_entries(count: u16, b0: Bound, b1: Bound) -> Entries {
     }
 }
 
-fn two_rules(count: u16, r0: Rule, r1: Rule) -> Needs {
+fn two_rules(count: u16, r0: Rule, r1: Rule) -> Needs
+    ensures { λ r. ⌜ r ≡ record { count = count; r0 = r0; r1 = r1; r2 = record { number = 0; one = 0; other = 0 }; r3 = record { number = 0; one = 0; other = 0 } } ⌝ }
+{
     Needs { count, r0, r1, r2: says(0, 0, 0), r3: says(0, 0, 0) }
 }
 
-fn no_rules() -> Needs {
+fn no_rules() -> Needs
+    ensures { λ r. ⌜ meant-needs r ≡ [] ⌝ }
+{
     two_rules(0, says(0, 0, 0), says(0, 0, 0))
 }
 
-fn row(entries: Entries, needs: Needs, source: u16, target: u16) -> Adds {
+fn row(entries: Entries, needs: Needs, source: u16, target: u16) -> Adds
+    ensures { λ r. ⌜ r ≡ record { entries = entries; needs = needs; gives = arrow source target } ⌝ }
+{
     Adds { entries, needs, gives: from_to(source, target) }
 }
 
@@ -142,7 +154,10 @@ pub fn comp(s: Arrow, t: Arrow) -> Adds
 }
 
 // A, B, C, D at e to e + 3, A + B at e + 4, (A + B) × C at e + 5; then the products that the halves need.
-fn case_entries(count: u16, e: u16, b6: Bound, b7: Bound) -> Entries {
+fn case_entries(count: u16, e: u16, b6: Bound, b7: Bound) -> Entries
+    requires { ⌜ e + 8 < 2 ^ 16 ⌝ }
+    ensures { λ r. ⌜ r ≡ record { count = count; b0 = Free; b1 = Free; b2 = Free; b3 = Free; b4 = Sum e (e + 1); b5 = Product (e + 4) (e + 2); b6 = b6; b7 = b7 } ⌝ }
+{
     Entries {
         count,
         b0: Bound::Free,

@@ -1,1 +1,454 @@
-// placeholder
+// The state and what offers and take-backs do to it.
+//
+// The core works on lent tables, always in this order: the class table's parent, rank, shape, kind, left, right, trail and
+// pending, then nodes: a row of seven numbers for each node kept (kind, a, b, source, target, and the entries and links before
+// it). The live counts go in and out by value. How many nodes there is room for is the number of rows of `nodes`.
+
+use super::Answer;
+use super::Node;
+use super::arrow;
+use super::arrow::Adds;
+use super::arrow::Arrow;
+use super::arrow::Entries;
+use super::arrow::Needs;
+use classes::Bound;
+use classes::Mark;
+use classes::context;
+use classes::context::Added;
+use classes::context::Joined;
+use classes::undo;
+ghost use mathlib.Core.Path.{_≡_};
+ghost use mathlib.Core.Bool.{true, false};
+ghost use mathlib.Core.List.{List};
+ghost use Prim.Native.Nat.{ℕ, _+_, _*_, _^_, _≤_, _<_, min};
+ghost use lib.ListN.{length, getD, replicate};
+ghost use Rattle.classes.specs.Table.{table, fresh};
+ghost use Rattle.classes.specs.Promises.{made-links};
+ghost use Rattle.classes.specs.declared.Bound.the-variants.{Free};
+ghost use Rattle.types.specs.Layout.{children, standing, Proper};
+ghost use Rattle.types.specs.Layout.{arrow as from-to};
+ghost use Rattle.types.specs.Meant.{meant, meant-entries, meant-needs};
+ghost use Rattle.types.specs.Answers.{Below};
+ghost use Rattle.types.specs.States.{state, entered, kind-number, first-field, second-field, row-numbers, Opened};
+ghost use Rattle.types.specs.Applying.{row-written, rows-cleared, Enterable, Meetable, Meeting, met-links, Applicable, Applying, applied-entries, applied-links};
+ghost use Rattle.types.specs.Calls.{Called};
+ghost use Rattle.types.specs.declared.Record.the-variants.{Offer, TakeBack};
+
+// Numbers in a node's row, and where they stand in it.
+const ROW: usize = 7;
+const SOURCE: usize = 3;
+const TARGET: usize = 4;
+const ENTRIES: usize = 5;
+const LINKS: usize = 6;
+
+// The entries that stand from the start: 1, and 2^(2^n) for n from 0 to 31.
+const STANDING: u16 = 33;
+
+// How much of the tables is in use.
+pub struct Live {
+    pub entries: u16,
+    pub links: u16,
+    pub kept: u16,
+}
+
+// What a record leaves: its answer and the counts.
+pub struct Step {
+    pub answer: Answer,
+    pub live: Live,
+}
+
+// What joining a node's rules leaves: the links then, and for a clash the rule's number.
+pub enum Met {
+    All(u16),
+    Clash(u16, u16),
+}
+
+// What applying a row leaves: the counts, or the number of the rule that clashed, with everything undone.
+pub enum Applied {
+    Fits(Mark),
+    Clash(u16),
+}
+
+fn kind_number(n: Node) -> u16
+    ensures { λ r. ⌜ r ≡ kind-number n ⌝ }
+{
+    match n {
+        Node::Iden => 1,
+        Node::Unit => 2,
+        Node::InjL(_) => 3,
+        Node::InjR(_) => 4,
+        Node::Take(_) => 5,
+        Node::Drop(_) => 6,
+        Node::Comp(_, _) => 7,
+        Node::Case(_, _) => 8,
+        Node::AssertL(_) => 9,
+        Node::AssertR(_) => 10,
+        Node::Pair(_, _) => 11,
+        Node::Disconnect(_, _) => 12,
+        Node::DisconnectHole(_) => 13,
+        Node::Witness => 14,
+        Node::Fail => 15,
+        Node::Word(_) => 16,
+    }
+}
+
+fn first_field(n: Node) -> u16
+    ensures { λ r. ⌜ r ≡ first-field n ⌝ }
+{
+    match n {
+        Node::Iden => 0,
+        Node::Unit => 0,
+        Node::InjL(i) => i,
+        Node::InjR(i) => i,
+        Node::Take(i) => i,
+        Node::Drop(i) => i,
+        Node::Comp(i, _) => i,
+        Node::Case(i, _) => i,
+        Node::AssertL(i) => i,
+        Node::AssertR(i) => i,
+        Node::Pair(i, _) => i,
+        Node::Disconnect(i, _) => i,
+        Node::DisconnectHole(i) => i,
+        Node::Witness => 0,
+        Node::Fail => 0,
+        Node::Word(n) => n,
+    }
+}
+
+fn second_field(n: Node) -> u16
+    ensures { λ r. ⌜ r ≡ second-field n ⌝ }
+{
+    match n {
+        Node::Iden => 0,
+        Node::Unit => 0,
+        Node::InjL(_) => 0,
+        Node::InjR(_) => 0,
+        Node::Take(_) => 0,
+        Node::Drop(_) => 0,
+        Node::Comp(_, j) => j,
+        Node::Case(_, j) => j,
+        Node::AssertL(_) => 0,
+        Node::AssertR(_) => 0,
+        Node::Pair(_, j) => j,
+        Node::Disconnect(_, j) => j,
+        Node::DisconnectHole(_) => 0,
+        Node::Witness => 0,
+        Node::Fail => 0,
+        Node::Word(_) => 0,
+    }
+}
+
+// How many children a node has. They stand in its fields; a word's field is no child.
+fn arity(n: Node) -> u16
+    ensures { λ r. ⌜ r ≡ length (children n) ⌝ }
+{
+    match n {
+        Node::Iden => 0,
+        Node::Unit => 0,
+        Node::InjL(_) => 1,
+        Node::InjR(_) => 1,
+        Node::Take(_) => 1,
+        Node::Drop(_) => 1,
+        Node::Comp(_, _) => 2,
+        Node::Case(_, _) => 2,
+        Node::AssertL(_) => 1,
+        Node::AssertR(_) => 1,
+        Node::Pair(_, _) => 2,
+        Node::Disconnect(_, _) => 2,
+        Node::DisconnectHole(_) => 1,
+        Node::Witness => 0,
+        Node::Fail => 0,
+        Node::Word(_) => 0,
+    }
+}
+
+// The first child, 0 where there is none. The second field is the second child, or 0.
+fn first_child(n: Node) -> u16
+    ensures { λ r. ⌜ r ≡ getD (children n) 0 0 ⌝ }
+{
+    if arity(n) == 0 { 0 } else { first_field(n) }
+}
+
+// Every child is below the next number.
+fn children_below(n: Node, next: u16) -> bool
+    ensures { λ r. ⌜ (r ≡ true → Below next n) × (r ≡ false → Below next n → ⊥) ⌝ }
+{
+    let children = arity(n);
+    if children == 0 {
+        return true;
+    }
+    if next <= first_field(n) {
+        return false;
+    }
+    if children == 1 {
+        return true;
+    }
+    second_field(n) < next
+}
+
+// The arrow of the node with this number, as its row has it.
+fn arrow_at(nodes: &[u16], i: u16) -> Arrow
+    requires { ⌜ 7 * i + 7 ≤ length (now nodes) ⌝ }
+    ensures { λ r. ⌜ r ≡ from-to (getD (now (nodes .entry)) (7 * i + 3) 0) (getD (now (nodes .entry)) (7 * i + 4) 0) ⌝ }
+{
+    let row = ROW * (i as usize);
+    Arrow { source: nodes[row + SOURCE], target: nodes[row + TARGET] }
+}
+
+fn write_row(nodes: &mut [u16], i: u16, n: Node, gives: Arrow, before: Mark)
+    requires { ⌜ 7 * i + 7 ≤ length (now nodes) ⌝ }
+    ensures { λ _. ⌜ now (nodes .exit) ≡ row-written (now (nodes .entry)) i (row-numbers n gives (before .entries) (before .links)) ⌝ }
+{
+    let row = ROW * (i as usize);
+    nodes[row] = kind_number(n);
+    nodes[row + 1] = first_field(n);
+    nodes[row + 2] = second_field(n);
+    nodes[row + SOURCE] = gives.source;
+    nodes[row + TARGET] = gives.target;
+    nodes[row + ENTRIES] = before.entries;
+    nodes[row + LINKS] = before.links;
+}
+
+// Clears the rows from number `from` up to `to`.
+fn clear_rows(nodes: &mut [u16], from: u16, to: u16)
+    requires { ⌜ (from ≤ to) × (7 * to ≤ length (now nodes)) ⌝ }
+    ensures { λ _. ⌜ now (nodes .exit) ≡ rows-cleared (now (nodes .entry)) from to ⌝ }
+{
+    let mut i = ROW * (from as usize);
+    let end = ROW * (to as usize);
+    while i < end {
+        nodes[i] = 0;
+        i += 1;
+    }
+}
+
+// The bound of a standing entry: 1, 1 + 1, and from then on the square of the one before.
+fn standing_bound(i: u16) -> Bound
+    requires { ⌜ i < 33 ⌝ }
+    ensures { λ r. ⌜ r ≡ getD standing i Free ⌝ }
+{
+    if i == 0 {
+        return Bound::Unit;
+    }
+    if i == 1 {
+        return Bound::Sum(0, 0);
+    }
+    Bound::Product(i - 1, i - 1)
+}
+
+fn at_most(n: u16, most: u16) -> u16
+    ensures { λ r. ⌜ r ≡ min n most ⌝ }
+{
+    if n < most { n } else { most }
+}
+
+// Adds a row's entries, and gives the number of entries then.
+fn enter(
+    parent: &mut [u16],
+    rank: &mut [u16],
+    shape: &mut [u16],
+    kind: &mut [u16],
+    left: &mut [u16],
+    right: &mut [u16],
+    live: Mark,
+    list: Entries,
+) -> u16
+    requires { ⌜ ((trail : List ℕ) × Enterable (table (now parent) (now rank) (now shape) (now kind) (now left) (now right) trail (live .entries) (live .links)) (meant-entries list)) ⌝ }
+    ensures { λ r. ⌜ ((trail : List ℕ) →
+        table (now (parent .exit)) (now (rank .exit)) (now (shape .exit)) (now (kind .exit)) (now (left .exit)) (now (right .exit)) trail r (live .links)
+        ≡ entered (table (now (parent .entry)) (now (rank .entry)) (now (shape .entry)) (now (kind .entry)) (now (left .entry)) (now (right .entry)) trail (live .entries) (live .links)) (meant-entries list)) ⌝ }
+{
+    let links = live.links;
+    let count = at_most(list.count, 8);
+    let mut entries = live.entries;
+    let mut i = 0;
+    while i < count {
+        let now = Mark { entries, links };
+        let Added::Entry(_) = context::add(parent, rank, shape, kind, left, right, now, arrow::entry_at(list, i)) else {
+            return entries;
+        };
+        entries += 1;
+        i += 1;
+    }
+    entries
+}
+
+// The links that a join made, whatever its answer.
+fn links_made(j: Joined) -> u16
+    ensures { λ r. ⌜ r ≡ made-links j ⌝ }
+{
+    match j {
+        Joined::Done(n) => n,
+        Joined::Clash(n) => n,
+    }
+}
+
+// Joins a row's rules in order, and leaves at once with the first that clashes.
+fn meet(
+    parent: &mut [u16],
+    rank: &mut [u16],
+    shape: &mut [u16],
+    kind: &[u16],
+    left: &[u16],
+    right: &[u16],
+    trail: &mut [u16],
+    pending: &mut [u16],
+    live: Mark,
+    list: Needs,
+) -> Met
+    requires { ⌜ Meetable (table (now parent) (now rank) (now shape) (now kind) (now left) (now right) (now trail) (live .entries) (live .links)) (now pending) (meant-needs list) ⌝ }
+    ensures { λ r. ⌜ Meeting
+        (table (now (parent .entry)) (now (rank .entry)) (now (shape .entry)) (now (kind .entry)) (now (left .entry)) (now (right .entry)) (now (trail .entry)) (live .entries) (live .links))
+        (meant-needs list) r
+        (table (now (parent .exit)) (now (rank .exit)) (now (shape .exit)) (now (kind .entry)) (now (left .entry)) (now (right .entry)) (now (trail .exit)) (live .entries) (met-links r)) ⌝ }
+{
+    let entries = live.entries;
+    let count = at_most(list.count, 4);
+    let mut links = live.links;
+    let mut i = 0;
+    while i < count {
+        let r = arrow::rule_at(list, i);
+        let now = Mark { entries, links };
+        let joined = context::join(parent, rank, shape, kind, left, right, trail, pending, now, r.one, r.other);
+        let made = links_made(joined);
+        let Joined::Done(_) = joined else {
+            return Met::Clash(r.number, links + made);
+        };
+        links += made;
+        i += 1;
+    }
+    Met::All(links)
+}
+
+// Adds a row's entries and joins its rules. After a clash everything is as it was.
+fn apply(
+    parent: &mut [u16],
+    rank: &mut [u16],
+    shape: &mut [u16],
+    kind: &mut [u16],
+    left: &mut [u16],
+    right: &mut [u16],
+    trail: &mut [u16],
+    pending: &mut [u16],
+    live: Mark,
+    row: Adds,
+) -> Applied
+    requires { ⌜ Applicable (table (now parent) (now rank) (now shape) (now kind) (now left) (now right) (now trail) (live .entries) (live .links)) (now pending) (meant row) ⌝ }
+    ensures { λ r. ⌜ Applying
+        (table (now (parent .entry)) (now (rank .entry)) (now (shape .entry)) (now (kind .entry)) (now (left .entry)) (now (right .entry)) (now (trail .entry)) (live .entries) (live .links))
+        (meant row) r
+        (table (now (parent .exit)) (now (rank .exit)) (now (shape .exit)) (now (kind .exit)) (now (left .exit)) (now (right .exit)) (now (trail .exit)) (applied-entries (live .entries) r) (applied-links (live .links) r)) ⌝ }
+{
+    let entries = enter(parent, rank, shape, kind, left, right, live, row.entries);
+    let links = live.links;
+    let entered = Mark { entries, links };
+    match meet(parent, rank, shape, kind, left, right, trail, pending, entered, row.needs) {
+        Met::All(l) => Applied::Fits(Mark { entries, links: l }),
+        Met::Clash(rule, l) => {
+            undo::undo(parent, rank, shape, kind, left, right, trail, Mark { entries, links: l }, live);
+            Applied::Clash(rule)
+        }
+    }
+}
+
+// Offers a node: the checks in the order 3, 2, 4.
+pub fn offer(
+    parent: &mut [u16],
+    rank: &mut [u16],
+    shape: &mut [u16],
+    kind: &mut [u16],
+    left: &mut [u16],
+    right: &mut [u16],
+    trail: &mut [u16],
+    pending: &mut [u16],
+    nodes: &mut [u16],
+    live: Live,
+    n: Node,
+) -> Step
+    requires { ⌜ ((most : ℕ) × Opened most (state (table (now parent) (now rank) (now shape) (now kind) (now left) (now right) (now trail) (live .entries) (live .links)) (now nodes) (live .kept))) ⌝ }
+    requires { ⌜ Proper n × (2 * length (now parent) ≤ length (now pending)) ⌝ }
+    ensures { λ r. ⌜ ((most : ℕ) (o : Opened most (state (table (now (parent .entry)) (now (rank .entry)) (now (shape .entry)) (now (kind .entry)) (now (left .entry)) (now (right .entry)) (now (trail .entry)) (live .entries) (live .links)) (now (nodes .entry)) (live .kept))) →
+        Called most (state (table (now (parent .entry)) (now (rank .entry)) (now (shape .entry)) (now (kind .entry)) (now (left .entry)) (now (right .entry)) (now (trail .entry)) (live .entries) (live .links)) (now (nodes .entry)) (live .kept)) o (Offer n) (r .answer)
+        (state (table (now (parent .exit)) (now (rank .exit)) (now (shape .exit)) (now (kind .exit)) (now (left .exit)) (now (right .exit)) (now (trail .exit)) (r .live .entries) (r .live .links)) (now (nodes .exit)) (r .live .kept))) ⌝ }
+{
+    let kept = live.kept;
+    if nodes.len() <= ROW * (kept as usize) {
+        return Step { answer: Answer::Full, live };
+    }
+    if !children_below(n, kept) {
+        return Step { answer: Answer::NoChild, live };
+    }
+    let before = Mark { entries: live.entries, links: live.links };
+    let row = arrow::adds_of(n, arrow_at(nodes, first_child(n)), arrow_at(nodes, second_field(n)), live.entries);
+    let gives = row.gives;
+    match apply(parent, rank, shape, kind, left, right, trail, pending, before, row) {
+        Applied::Clash(rule) => Step { answer: Answer::Clashes(rule), live },
+        Applied::Fits(now) => {
+            write_row(nodes, kept, n, gives, before);
+            Step {
+                answer: Answer::Kept(kept, now.links - before.links),
+                live: Live { entries: now.entries, links: now.links, kept: kept + 1 },
+            }
+        }
+    }
+}
+
+// Takes back to the first `to` nodes.
+pub fn take_back(
+    parent: &mut [u16],
+    rank: &mut [u16],
+    shape: &mut [u16],
+    kind: &mut [u16],
+    left: &mut [u16],
+    right: &mut [u16],
+    trail: &mut [u16],
+    nodes: &mut [u16],
+    live: Live,
+    to: u16,
+) -> Step
+    requires { ⌜ ((most : ℕ) × Opened most (state (table (now parent) (now rank) (now shape) (now kind) (now left) (now right) (now trail) (live .entries) (live .links)) (now nodes) (live .kept))) ⌝ }
+    ensures { λ r. ⌜ ((most : ℕ) (o : Opened most (state (table (now (parent .entry)) (now (rank .entry)) (now (shape .entry)) (now (kind .entry)) (now (left .entry)) (now (right .entry)) (now (trail .entry)) (live .entries) (live .links)) (now (nodes .entry)) (live .kept))) →
+        Called most (state (table (now (parent .entry)) (now (rank .entry)) (now (shape .entry)) (now (kind .entry)) (now (left .entry)) (now (right .entry)) (now (trail .entry)) (live .entries) (live .links)) (now (nodes .entry)) (live .kept)) o (TakeBack to) (r .answer)
+        (state (table (now (parent .exit)) (now (rank .exit)) (now (shape .exit)) (now (kind .exit)) (now (left .exit)) (now (right .exit)) (now (trail .exit)) (r .live .entries) (r .live .links)) (now (nodes .exit)) (r .live .kept))) ⌝ }
+{
+    let kept = live.kept;
+    if kept < to {
+        return Step { answer: Answer::TooFar(kept), live };
+    }
+    if kept == to {
+        return Step { answer: Answer::TakenBack(to), live };
+    }
+    let row = ROW * (to as usize);
+    let entries = nodes[row + ENTRIES];
+    let links = nodes[row + LINKS];
+    let now = Mark { entries: live.entries, links: live.links };
+    undo::undo(parent, rank, shape, kind, left, right, trail, now, Mark { entries, links });
+    clear_rows(nodes, to, kept);
+    Step { answer: Answer::TakenBack(to), live: Live { entries, links, kept: to } }
+}
+
+// Opens fresh tables: the standing entries, and no node.
+pub fn open(
+    parent: &mut [u16],
+    rank: &mut [u16],
+    shape: &mut [u16],
+    kind: &mut [u16],
+    left: &mut [u16],
+    right: &mut [u16],
+) -> Live
+    requires { ⌜ ((rows : ℕ) × (33 ≤ rows) × (rows < 2 ^ 16)
+        × (now parent ≡ replicate rows 0) × (now rank ≡ replicate rows 0) × (now shape ≡ replicate rows 0)
+        × (now kind ≡ replicate rows 0) × (now left ≡ replicate rows 0) × (now right ≡ replicate rows 0)) ⌝ }
+    ensures { λ r. ⌜ (r .kept ≡ 0) × (table (now (parent .exit)) (now (rank .exit)) (now (shape .exit)) (now (kind .exit)) (now (left .exit)) (now (right .exit)) (replicate (3 * length (now (parent .entry))) 0) (r .entries) (r .links)
+        ≡ entered (fresh (length (now (parent .entry)))) standing) ⌝ }
+{
+    let mut i = 0;
+    while i < STANDING {
+        let now = Mark { entries: i, links: 0 };
+        let Added::Entry(_) = context::add(parent, rank, shape, kind, left, right, now, standing_bound(i)) else {
+            return Live { entries: i, links: 0, kept: 0 };
+        };
+        i += 1;
+    }
+    Live { entries: STANDING, links: 0, kept: 0 }
+}
