@@ -67,7 +67,7 @@ joins-begin {t} {rs = rs} m =
     }
 
 module _ {t₀ : Table} {rs : List Numbered} {t : Table} {pending : List ℕ} {i : ℕ} (j : Joins t₀ rs t pending i) (more : i < length rs) (one other number : ℕ)
-  (is : says number one other ≡ getD rs i (says 0 0 0)) where
+    (is : says number one other ≡ getD rs i (says 0 0 0)) where
   -- the rule's entries are there
   live : (one < t .entries) × (other < t .entries)
   live =

@@ -1,6 +1,7 @@
 pub mod Applies
 pub mod Arms
 pub mod Backward
+pub mod Begun
 pub mod Children
 pub mod Demand3
 pub mod EachEntry

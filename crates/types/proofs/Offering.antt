@@ -45,7 +45,7 @@ row-appended numbers row i blank long seven enough =
     let zero : ℕ = 0 in
     let split : replicate blank zero ≡ replicate 7 zero ++ replicate (blank - 7) zero = ap (λ (n : ℕ). replicate n zero) more ∙ sym (replicate-append-replicate 7 (blank - 7) zero) in
     let past : drop (7 * i + 7) (numbers ++ replicate blank 0) ≡ replicate (blank - 7) 0 =
-        ap (λ (n : ℕ). drop (n + 7) (numbers ++ replicate blank 0)) (sym long) ∙ drop-append-add numbers (replicate blank 0) 7 ∙ ap (drop 7) split in
+    ap (λ (n : ℕ). drop (n + 7) (numbers ++ replicate blank 0)) (sym long) ∙ drop-append-add numbers (replicate blank 0) 7 ∙ ap (drop 7) split in
     ap (λ (l : List ℕ). l ++ row ++ drop (7 * i + 7) (numbers ++ replicate blank 0)) (take-at numbers (replicate blank 0) (7 * i) long)
     ∙ ap (λ (l : List ℕ). numbers ++ row ++ l) past
 
@@ -108,7 +108,7 @@ module _ {most : ℕ} {s : State} (o : Opened most s) where
           let long = numbers-long in
           let empty : length (o .numbers) ≡ 0 = omega arith in
           let start : getD (s .nodes) i 0 ≡ getD (replicate (7 * most - length (o .numbers)) 0) (i - 0) 0 =
-              ap (λ (l : List ℕ). getD l i 0) (o .written) ∙ past (o .numbers) (replicate (7 * most - length (o .numbers)) 0) i empty in
+          ap (λ (l : List ℕ). getD l i 0) (o .written) ∙ past (o .numbers) (replicate (7 * most - length (o .numbers)) 0) i empty in
           start ∙ replicate-blank (7 * most - length (o .numbers)) 0 (i - 0) (omega arith)
         where
           past : (xs ys : List ℕ) (i : ℕ) → length xs ≡ 0 → getD (xs ++ ys) i 0 ≡ getD ys (i - 0) 0

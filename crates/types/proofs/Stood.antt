@@ -74,7 +74,7 @@ refused {n = n} {k = k} e c =
 
 -- an offer to a standing list
 module _ {rows : ℕ} {ns : List Node} {p : Program} {ms : List ℕ} {t : Table} (s : Stood rows ns p ms t) (n : Node) (proper : Proper n) (below : Below (length ns) n)
-  (room : 33 + 8 * (length ns + 1) ≤ rows) where
+    (room : 33 + 8 * (length ns + 1) ≤ rows) where
   -- its children have arrows, its entries fit and have room
   children-there : Below (length (p .arrows)) n
   children-there = rw (s .arrows-are) below

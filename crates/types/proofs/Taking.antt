@@ -49,8 +49,8 @@ module _ {most : ℕ} {s : State} (o : Opened most s) where
     takes-none all = record {
       after = o;
       answered =
-        subst (λ ns. Answered most (o .nodes) (TakeBack k) (TakenBack k) ns) (take-all k (o .nodes) (omega arith))
-        (Answered.takes-back (omega arith));
+          subst (λ ns. Answered most (o .nodes) (TakeBack k) (TakenBack k) ns) (take-all k (o .nodes) (omega arith))
+          (Answered.takes-back (omega arith));
       same-rows = refl;
     }
 

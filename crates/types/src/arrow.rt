@@ -2,15 +2,15 @@
 // of the next entry; `s` and `t` are the arrows of the first and the second child. Each function is a row of document 01's
 // table: the new entries in order, the rules in order, the node's own arrow. No table is touched here.
 
-use classes::Bound;
 use super::Node;
+use classes::Bound;
 ghost use mathlib.Core.Path.{_≡_};
-ghost use mathlib.Core.List.{List, [], _∷_};
+ghost use mathlib.Core.List.{[], _∷_};
 ghost use Prim.Native.Nat.{ℕ, _+_, _^_, _≤_, _<_};
 ghost use lib.ListN.{getD};
 ghost use Rattle.classes.specs.declared.Bound.the-variants.{Free, Sum, Product};
-ghost use Rattle.types.specs.Layout.{Row, says, adds, children, arrow, Proper};
-ghost use Rattle.types.specs.Meant.{meant, meant-entries, meant-needs, meant-rule};
+ghost use Rattle.types.specs.Layout.{says, adds, arrow, Proper};
+ghost use Rattle.types.specs.Meant.{meant, meant-needs, meant-rule};
 ghost use Rattle.types.specs.declared.Node.the-variants.{Iden, InjL, InjR, Take, Drop, Comp, Case, AssertL, AssertR, Pair, Disconnect, DisconnectHole, Witness, Fail, Word};
 ghost use Rattle.types.specs.declared.Node.the-variants.{Unit as UnitNode};
 
@@ -59,6 +59,7 @@ pub struct Adds {
 
 // The standing entries: 1, and 2^256.
 const ONE: u16 = 0;
+
 const POWER_256: u16 = 9;
 
 fn says(number: u16, one: u16, other: u16) -> Rule
@@ -92,7 +93,13 @@ fn two_entries(count: u16, b0: Bound, b1: Bound) -> Entries
 fn two_rules(count: u16, r0: Rule, r1: Rule) -> Needs
     ensures { λ r. ⌜ r ≡ record { count = count; r0 = r0; r1 = r1; r2 = record { number = 0; one = 0; other = 0 }; r3 = record { number = 0; one = 0; other = 0 } } ⌝ }
 {
-    Needs { count, r0, r1, r2: says(0, 0, 0), r3: says(0, 0, 0) }
+    Needs {
+        count,
+        r0,
+        r1,
+        r2: says(0, 0, 0),
+        r3: says(0, 0, 0),
+    }
 }
 
 fn no_rules() -> Needs
@@ -104,53 +111,82 @@ fn no_rules() -> Needs
 fn row(entries: Entries, needs: Needs, source: u16, target: u16) -> Adds
     ensures { λ r. ⌜ r ≡ record { entries = entries; needs = needs; gives = arrow source target } ⌝ }
 {
-    Adds { entries, needs, gives: from_to(source, target) }
+    Adds {
+        entries,
+        needs,
+        gives: from_to(source, target),
+    }
 }
 
-pub fn iden(e: u16) -> Adds
+fn iden(e: u16) -> Adds
     ensures { λ r. ⌜ ((s t : Arrow) → meant r ≡ adds Iden s t e) ⌝ }
 {
     row(two_entries(1, Bound::Free, Bound::Free), no_rules(), e, e)
 }
 
-pub fn unit(e: u16) -> Adds
+fn unit(e: u16) -> Adds
     ensures { λ r. ⌜ ((s t : Arrow) → meant r ≡ adds UnitNode s t e) ⌝ }
 {
     row(two_entries(1, Bound::Free, Bound::Free), no_rules(), e, ONE)
 }
 
-pub fn injl(s: Arrow, e: u16) -> Adds
+fn injl(s: Arrow, e: u16) -> Adds
     requires { ⌜ e + 8 < 2 ^ 16 ⌝ }
     ensures { λ r. ⌜ ((i : ℕ) (t : Arrow) → meant r ≡ adds (InjL i) s t e) ⌝ }
 {
-    row(two_entries(2, Bound::Free, Bound::Sum(s.target, e)), no_rules(), s.source, e + 1)
+    row(
+        two_entries(2, Bound::Free, Bound::Sum(s.target, e)),
+        no_rules(),
+        s.source,
+        e + 1,
+    )
 }
 
-pub fn injr(s: Arrow, e: u16) -> Adds
+fn injr(s: Arrow, e: u16) -> Adds
     requires { ⌜ e + 8 < 2 ^ 16 ⌝ }
     ensures { λ r. ⌜ ((i : ℕ) (t : Arrow) → meant r ≡ adds (InjR i) s t e) ⌝ }
 {
-    row(two_entries(2, Bound::Free, Bound::Sum(e, s.target)), no_rules(), s.source, e + 1)
+    row(
+        two_entries(2, Bound::Free, Bound::Sum(e, s.target)),
+        no_rules(),
+        s.source,
+        e + 1,
+    )
 }
 
-pub fn take(s: Arrow, e: u16) -> Adds
+fn take(s: Arrow, e: u16) -> Adds
     requires { ⌜ e + 8 < 2 ^ 16 ⌝ }
     ensures { λ r. ⌜ ((i : ℕ) (t : Arrow) → meant r ≡ adds (Take i) s t e) ⌝ }
 {
-    row(two_entries(2, Bound::Free, Bound::Product(s.source, e)), no_rules(), e + 1, s.target)
+    row(
+        two_entries(2, Bound::Free, Bound::Product(s.source, e)),
+        no_rules(),
+        e + 1,
+        s.target,
+    )
 }
 
-pub fn drop(s: Arrow, e: u16) -> Adds
+fn drop(s: Arrow, e: u16) -> Adds
     requires { ⌜ e + 8 < 2 ^ 16 ⌝ }
     ensures { λ r. ⌜ ((i : ℕ) (t : Arrow) → meant r ≡ adds (Drop i) s t e) ⌝ }
 {
-    row(two_entries(2, Bound::Free, Bound::Product(e, s.source)), no_rules(), e + 1, s.target)
+    row(
+        two_entries(2, Bound::Free, Bound::Product(e, s.source)),
+        no_rules(),
+        e + 1,
+        s.target,
+    )
 }
 
-pub fn comp(s: Arrow, t: Arrow) -> Adds
+fn comp(s: Arrow, t: Arrow) -> Adds
     ensures { λ r. ⌜ ((i j e : ℕ) → meant r ≡ adds (Comp i j) s t e) ⌝ }
 {
-    row(two_entries(0, Bound::Free, Bound::Free), two_rules(1, says(1, s.target, t.source), says(0, 0, 0)), s.source, t.target)
+    row(
+        two_entries(0, Bound::Free, Bound::Free),
+        two_rules(1, says(1, s.target, t.source), says(0, 0, 0)),
+        s.source,
+        t.target,
+    )
 }
 
 // A, B, C, D at e to e + 3, A + B at e + 4, (A + B) × C at e + 5; then the products that the halves need.
@@ -171,7 +207,7 @@ fn case_entries(count: u16, e: u16, b6: Bound, b7: Bound) -> Entries
     }
 }
 
-pub fn case(s: Arrow, t: Arrow, e: u16) -> Adds
+fn case(s: Arrow, t: Arrow, e: u16) -> Adds
     requires { ⌜ e + 8 < 2 ^ 16 ⌝ }
     ensures { λ r. ⌜ ((i j : ℕ) → meant r ≡ adds (Case i j) s t e) ⌝ }
 {
@@ -182,10 +218,15 @@ pub fn case(s: Arrow, t: Arrow, e: u16) -> Adds
         r2: says(4, t.source, e + 7),
         r3: says(5, e + 3, t.target),
     };
-    row(case_entries(8, e, Bound::Product(e, e + 2), Bound::Product(e + 1, e + 2)), halves, e + 5, e + 3)
+    row(
+        case_entries(8, e, Bound::Product(e, e + 2), Bound::Product(e + 1, e + 2)),
+        halves,
+        e + 5,
+        e + 3,
+    )
 }
 
-pub fn assertl(s: Arrow, e: u16) -> Adds
+fn assertl(s: Arrow, e: u16) -> Adds
     requires { ⌜ e + 8 < 2 ^ 16 ⌝ }
     ensures { λ r. ⌜ ((i : ℕ) (t : Arrow) → meant r ≡ adds (AssertL i) s t e) ⌝ }
 {
@@ -197,7 +238,7 @@ pub fn assertl(s: Arrow, e: u16) -> Adds
     )
 }
 
-pub fn assertr(s: Arrow, e: u16) -> Adds
+fn assertr(s: Arrow, e: u16) -> Adds
     requires { ⌜ e + 8 < 2 ^ 16 ⌝ }
     ensures { λ r. ⌜ ((i : ℕ) (t : Arrow) → meant r ≡ adds (AssertR i) s t e) ⌝ }
 {
@@ -209,7 +250,7 @@ pub fn assertr(s: Arrow, e: u16) -> Adds
     )
 }
 
-pub fn pair(s: Arrow, t: Arrow, e: u16) -> Adds
+fn pair(s: Arrow, t: Arrow, e: u16) -> Adds
     requires { ⌜ e + 8 < 2 ^ 16 ⌝ }
     ensures { λ r. ⌜ ((i j : ℕ) → meant r ≡ adds (Pair i j) s t e) ⌝ }
 {
@@ -222,7 +263,7 @@ pub fn pair(s: Arrow, t: Arrow, e: u16) -> Adds
 }
 
 // A and B at e and e + 1; then 2^256 × A, B × source t and B × target t.
-pub fn disconnect(s: Arrow, t: Arrow, e: u16) -> Adds
+fn disconnect(s: Arrow, t: Arrow, e: u16) -> Adds
     requires { ⌜ e + 8 < 2 ^ 16 ⌝ }
     ensures { λ r. ⌜ ((i j : ℕ) → meant r ≡ adds (Disconnect i j) s t e) ⌝ }
 {
@@ -237,11 +278,16 @@ pub fn disconnect(s: Arrow, t: Arrow, e: u16) -> Adds
         b6: Bound::Free,
         b7: Bound::Free,
     };
-    row(five, two_rules(2, says(6, s.source, e + 2), says(7, s.target, e + 3)), e, e + 4)
+    row(
+        five,
+        two_rules(2, says(6, s.source, e + 2), says(7, s.target, e + 3)),
+        e,
+        e + 4,
+    )
 }
 
 // As disconnect, with a free source and target, at e + 2 and e + 3, for the child that is not there.
-pub fn disconnect_hole(s: Arrow, e: u16) -> Adds
+fn disconnect_hole(s: Arrow, e: u16) -> Adds
     requires { ⌜ e + 8 < 2 ^ 16 ⌝ }
     ensures { λ r. ⌜ ((i : ℕ) (t : Arrow) → meant r ≡ adds (DisconnectHole i) s t e) ⌝ }
 {
@@ -256,32 +302,52 @@ pub fn disconnect_hole(s: Arrow, e: u16) -> Adds
         b6: Bound::Product(e + 1, e + 3),
         b7: Bound::Free,
     };
-    row(seven, two_rules(2, says(6, s.source, e + 4), says(7, s.target, e + 5)), e, e + 6)
+    row(
+        seven,
+        two_rules(2, says(6, s.source, e + 4), says(7, s.target, e + 5)),
+        e,
+        e + 6,
+    )
 }
 
-pub fn witness(e: u16) -> Adds
+fn witness(e: u16) -> Adds
     requires { ⌜ e + 8 < 2 ^ 16 ⌝ }
     ensures { λ r. ⌜ ((s t : Arrow) → meant r ≡ adds Witness s t e) ⌝ }
 {
-    row(two_entries(2, Bound::Free, Bound::Free), no_rules(), e, e + 1)
+    row(
+        two_entries(2, Bound::Free, Bound::Free),
+        no_rules(),
+        e,
+        e + 1,
+    )
 }
 
-pub fn fail(e: u16) -> Adds
+fn fail(e: u16) -> Adds
     requires { ⌜ e + 8 < 2 ^ 16 ⌝ }
     ensures { λ r. ⌜ ((s t : Arrow) → meant r ≡ adds Fail s t e) ⌝ }
 {
-    row(two_entries(2, Bound::Free, Bound::Free), no_rules(), e, e + 1)
+    row(
+        two_entries(2, Bound::Free, Bound::Free),
+        no_rules(),
+        e,
+        e + 1,
+    )
 }
 
-pub fn word(n: u16) -> Adds
+fn word(n: u16) -> Adds
     requires { ⌜ n ≤ 31 ⌝ }
     ensures { λ r. ⌜ ((s t : Arrow) (e : ℕ) → meant r ≡ adds (Word n) s t e) ⌝ }
 {
-    row(two_entries(0, Bound::Free, Bound::Free), no_rules(), ONE, n + 1)
+    row(
+        two_entries(0, Bound::Free, Bound::Free),
+        no_rules(),
+        ONE,
+        n + 1,
+    )
 }
 
 // What a node adds, with the arrows of its first and its second child.
-pub fn adds_of(n: Node, s: Arrow, t: Arrow, e: u16) -> Adds
+pub(super) fn adds_of(n: Node, s: Arrow, t: Arrow, e: u16) -> Adds
     requires { ⌜ (e + 8 < 2 ^ 16) × Proper n ⌝ }
     ensures { λ r. ⌜ meant r ≡ adds n s t e ⌝ }
 {
@@ -306,7 +372,7 @@ pub fn adds_of(n: Node, s: Arrow, t: Arrow, e: u16) -> Adds
 }
 
 // The i-th new entry's bound, and the i-th rule.
-pub fn entry_at(list: Entries, i: u16) -> Bound
+pub(super) fn entry_at(list: Entries, i: u16) -> Bound
     requires { ⌜ i < 8 ⌝ }
     ensures { λ r. ⌜ r ≡ getD (list .b0 ∷ list .b1 ∷ list .b2 ∷ list .b3 ∷ list .b4 ∷ list .b5 ∷ list .b6 ∷ list .b7 ∷ []) i Free ⌝ }
 {
@@ -322,7 +388,7 @@ pub fn entry_at(list: Entries, i: u16) -> Bound
     }
 }
 
-pub fn rule_at(list: Needs, i: u16) -> Rule
+pub(super) fn rule_at(list: Needs, i: u16) -> Rule
     requires { ⌜ i < 4 ⌝ }
     ensures { λ r. ⌜ meant-rule r ≡ getD (meant-rule (list .r0) ∷ meant-rule (list .r1) ∷ meant-rule (list .r2) ∷ meant-rule (list .r3) ∷ []) i (says 0 0 0) ⌝ }
 {

@@ -36,9 +36,13 @@ ghost use Rattle.types.specs.declared.Record.the-variants.{Offer, TakeBa
 
 // Numbers in a node's row, and where they stand in it.
 const ROW: usize = 7;
+
 const SOURCE: usize = 3;
+
 const TARGET: usize = 4;
+
 const ENTRIES: usize = 5;
+
 const LINKS: usize = 6;
 
 // The entries that stand from the start: 1, and 2^(2^n) for n from 0 to 31.
@@ -192,7 +196,10 @@ fn arrow_at(nodes: &[u16], i: u16) -> Arrow
     ensures { λ r. ⌜ r ≡ from-to (getD (now (nodes .entry)) (7 * i + 3) 0) (getD (now (nodes .entry)) (7 * i + 4) 0) ⌝ }
 {
     let row = ROW * (i as usize);
-    Arrow { source: nodes[row + SOURCE], target: nodes[row + TARGET] }
+    Arrow {
+        source: nodes[row + SOURCE],
+        target: nodes[row + TARGET],
+    }
 }
 
 fn write_row(nodes: &mut [u16], i: u16, n: Node, gives: Arrow, before: Mark)
@@ -264,7 +271,16 @@ fn enter(
     let mut i = 0;
     while i < count {
         let now = Mark { entries, links };
-        let Added::Entry(_) = context::add(parent, rank, shape, kind, left, right, now, arrow::entry_at(list, i)) else {
+        let Added::Entry(_) = context::add(
+            parent,
+            rank,
+            shape,
+            kind,
+            left,
+            right,
+            now,
+            arrow::entry_at(list, i),
+        ) else {
             return entries;
         };
         entries += 1;
@@ -309,7 +325,19 @@ fn meet(
     while i < count {
         let r = arrow::rule_at(list, i);
         let now = Mark { entries, links };
-        let joined = context::join(parent, rank, shape, kind, left, right, trail, pending, now, r.one, r.other);
+        let joined = context::join(
+            parent,
+            rank,
+            shape,
+            kind,
+            left,
+            right,
+            trail,
+            pending,
+            now,
+            r.one,
+            r.other,
+        );
         let made = links_made(joined);
         let Joined::Done(_) = joined else {
             return Met::Clash(r.number, links + made);
@@ -342,10 +370,31 @@ fn apply(
     let entries = enter(parent, rank, shape, kind, left, right, live, row.entries);
     let links = live.links;
     let entered = Mark { entries, links };
-    match meet(parent, rank, shape, kind, left, right, trail, pending, entered, row.needs) {
+    match meet(
+        parent,
+        rank,
+        shape,
+        kind,
+        left,
+        right,
+        trail,
+        pending,
+        entered,
+        row.needs,
+    ) {
         Met::All(l) => Applied::Fits(Mark { entries, links: l }),
         Met::Clash(rule, l) => {
-            undo::undo(parent, rank, shape, kind, left, right, trail, Mark { entries, links: l }, live);
+            undo::undo(
+                parent,
+                rank,
+                shape,
+                kind,
+                left,
+                right,
+                trail,
+                Mark { entries, links: l },
+                live,
+            );
             Applied::Clash(rule)
         }
     }
@@ -373,21 +422,53 @@ pub fn offer(
 {
     let kept = live.kept;
     if nodes.len() <= ROW * (kept as usize) {
-        return Step { answer: Answer::Full, live };
+        return Step {
+            answer: Answer::Full,
+            live,
+        };
     }
     if !children_below(n, kept) {
-        return Step { answer: Answer::NoChild, live };
+        return Step {
+            answer: Answer::NoChild,
+            live,
+        };
     }
-    let before = Mark { entries: live.entries, links: live.links };
-    let row = arrow::adds_of(n, arrow_at(nodes, first_child(n)), arrow_at(nodes, second_field(n)), live.entries);
+    let before = Mark {
+        entries: live.entries,
+        links: live.links,
+    };
+    let row = arrow::adds_of(
+        n,
+        arrow_at(nodes, first_child(n)),
+        arrow_at(nodes, second_field(n)),
+        live.entries,
+    );
     let gives = row.gives;
-    match apply(parent, rank, shape, kind, left, right, trail, pending, before, row) {
-        Applied::Clash(rule) => Step { answer: Answer::Clashes(rule), live },
+    match apply(
+        parent,
+        rank,
+        shape,
+        kind,
+        left,
+        right,
+        trail,
+        pending,
+        before,
+        row,
+    ) {
+        Applied::Clash(rule) => Step {
+            answer: Answer::Clashes(rule),
+            live,
+        },
         Applied::Fits(now) => {
             write_row(nodes, kept, n, gives, before);
             Step {
                 answer: Answer::Kept(kept, now.links - before.links),
-                live: Live { entries: now.entries, links: now.links, kept: kept + 1 },
+                live: Live {
+                    entries: now.entries,
+                    links: now.links,
+                    kept: kept + 1,
+                },
             }
         }
     }
@@ -413,18 +494,44 @@ pub fn take_back(
 {
     let kept = live.kept;
     if kept < to {
-        return Step { answer: Answer::TooFar(kept), live };
+        return Step {
+            answer: Answer::TooFar(kept),
+            live,
+        };
     }
     if kept == to {
-        return Step { answer: Answer::TakenBack(to), live };
+        return Step {
+            answer: Answer::TakenBack(to),
+            live,
+        };
     }
     let row = ROW * (to as usize);
     let entries = nodes[row + ENTRIES];
     let links = nodes[row + LINKS];
-    let now = Mark { entries: live.entries, links: live.links };
-    undo::undo(parent, rank, shape, kind, left, right, trail, now, Mark { entries, links });
+    let now = Mark {
+        entries: live.entries,
+        links: live.links,
+    };
+    undo::undo(
+        parent,
+        rank,
+        shape,
+        kind,
+        left,
+        right,
+        trail,
+        now,
+        Mark { entries, links },
+    );
     clear_rows(nodes, to, kept);
-    Step { answer: Answer::TakenBack(to), live: Live { entries, links, kept: to } }
+    Step {
+        answer: Answer::TakenBack(to),
+        live: Live {
+            entries,
+            links,
+            kept: to,
+        },
+    }
 }
 
 // Opens fresh tables: the standing entries, and no node.
@@ -444,11 +551,31 @@ pub fn open(
 {
     let mut i = 0;
     while i < STANDING {
-        let now = Mark { entries: i, links: 0 };
-        let Added::Entry(_) = context::add(parent, rank, shape, kind, left, right, now, standing_bound(i)) else {
-            return Live { entries: i, links: 0, kept: 0 };
+        let now = Mark {
+            entries: i,
+            links: 0,
+        };
+        let Added::Entry(_) = context::add(
+            parent,
+            rank,
+            shape,
+            kind,
+            left,
+            right,
+            now,
+            standing_bound(i),
+        ) else {
+            return Live {
+                entries: i,
+                links: 0,
+                kept: 0,
+            };
         };
         i += 1;
     }
-    Live { entries: STANDING, links: 0, kept: 0 }
+    Live {
+        entries: STANDING,
+        links: 0,
+        kept: 0,
+    }
 }

@@ -2,9 +2,9 @@
 
 ghost use mathlib.Core.Path.{_≡_};
 ghost use Prim.Native.Nat.{_≤_};
-ghost use lib.ListN.{length, take, drop};
+ghost use lib.ListN.{length, drop};
 ghost use mathlib.Core.List.{_++_};
-ghost use Rattle.types.specs.Texts.{text, longest, Written};
+ghost use Rattle.types.specs.Texts.{longest, Written};
 
 // What writing a rule's text answers: how many bytes it has, or that the number names no rule.
 pub enum Text {
@@ -36,7 +36,10 @@ pub fn write(rule: u16, out: &mut [u8]) -> Text
         3 => Text::Bytes(put(b"case combinator: left source = A \xC3\x97 C", out)),
         4 => Text::Bytes(put(b"case combinator: left source = B \xC3\x97 C", out)),
         5 => Text::Bytes(put(b"case combinator: left target = right target", out)),
-        6 => Text::Bytes(put(b"disconnect combinator: left source = 2^256 \xC3\x97 A", out)),
+        6 => Text::Bytes(put(
+            b"disconnect combinator: left source = 2^256 \xC3\x97 A",
+            out,
+        )),
         7 => Text::Bytes(put(b"disconnect combinator: left target = B \xC3\x97 C", out)),
         _ => Text::NoRule,
     }

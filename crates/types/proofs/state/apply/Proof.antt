@@ -12,7 +12,6 @@ use borrow.Author.Needs.{needs}
 use Rattle.types.proofs.state.apply.Statement.{statement}
 use Rattle.types.proofs.state.apply.Tie as tie
 
-
 -- the places: the start, and the calls
 abbrev start : tie.After-enter-arg6 → tie.Start
 start c = c .before .before .before .before .before .before .before .before .before .before .before .before .before .before
@@ -130,7 +129,7 @@ same-length-16 : tie.Need-same-length-16
 same-length-16 c = search needs
 
 returns-2 : tie.Need-returns-2
-returns-2 c = 
+returns-2 c =
     let u = undoes c in
     let m = clashes (u .before) in
     let stopped = met m _ (u .before .before .before .before .before .before .before .before .before .rule .given .1) in

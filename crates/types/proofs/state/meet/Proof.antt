@@ -85,7 +85,7 @@ rule-at-requires : tie.Need-rule-at-requires Inv-loop μ-loop
 rule-at-requires c κs = omega (arith, c .loop-test .taken, c .before .loop .inv .1, needs-count (start (c .before .before) .args .list))
 
 join-requires : tie.Need-join-requires Inv-loop μ-loop
-join-requires c κs = 
+join-requires c κs =
     let r = rule-read c in
     (joins-now r .made, (one-live (joins-now r) (more r) _ _ _ (read r), other-live (joins-now r) (more r) _ _ _ (read r), joins-now r .pending-room))
 
@@ -129,11 +129,10 @@ loop-less : tie.Need-loop-less Inv-loop μ-loop
 loop-less c = let d = c .before .before in omega (arith, r d .before .loop-test .taken)
 
 loop-again : tie.Need-loop-again Inv-loop μ-loop
-loop-again c = 
+loop-again c =
     let d = c .before .before in
     let kept = calls d .join .kept in
-    let long = head (r d) .loop .inv .0 in
-    (
+    let long = head (r d) .loop .inv .0 in (
       (kept .0 ∙ long .0, kept .1 .0 ∙ long .1, kept .1 .1 .0 ∙ long .2, kept .1 .1 .1 .1 .1 .1 .0 ∙ long .3, kept .1 .1 .1 .1 .1 .1 .1 .0 ∙ long .4),
       head (r d) .loop .inv .1,
       joins-again (joins-now (r d)) (more (r d)) _ _ _ (read (r d)) (merged d _ (c .enum-told .given .1)) refl (kept .0) (kept .1 .1 .1 .1 .1 .1 .1 .0),

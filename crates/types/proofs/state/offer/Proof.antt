@@ -18,7 +18,6 @@ use borrow.Author.Needs.{needs}
 use Rattle.types.proofs.state.offer.Statement.{statement}
 use Rattle.types.proofs.state.offer.Tie as tie
 
-
 -- the places on the way
 abbrev start : tie.Else1 → tie.Start
 start c = c .before .before .before .before .before .before .before .before .before .before
@@ -70,8 +69,8 @@ module _ (c : tie.After-adds-of) where
   row-eq o =
       c .adds-of .ensures
       ∙ row-is o (room past) (from .args .n) (from .pre .1 .0) (below past) (two .before .before .before .arrow-at .result) (two .arrow-at2 .result)
-        (two .before .before .before .arrow-at .ensures ∙ ap arrow-read (read two .first-child .ensures))
-        (two .arrow-at2 .ensures ∙ ap arrow-read (two .before .second-field .ensures ∙ second-child (from .args .n)))
+      (two .before .before .before .arrow-at .ensures ∙ ap arrow-read (read two .first-child .ensures))
+      (two .arrow-at2 .ensures ∙ ap arrow-read (two .before .second-field .ensures ∙ second-child (from .args .n)))
 
 -- what applying it leaves, by its answer
 module _ (c : tie.After-apply) where
@@ -180,7 +179,7 @@ same-length-9 : tie.Need-same-length-9
 same-length-9 c = search needs
 
 returns-3 : tie.Need-returns-3
-returns-3 c = 
+returns-3 c =
     let a = refused c in
     let r = row a in
     let stopped = applied a _ (c .before .rule .given .1) in
@@ -214,13 +213,13 @@ same-length-18 : tie.Need-same-length-18
 same-length-18 c = search needs
 
 returns-4 : tie.Need-returns-4
-returns-4 c = 
+returns-4 c =
     let w = writes c .before in
     λ most o.
-      offer-kept o (room (past (r w))) (from (r w) .args .n) (from (r w) .pre .1 .0) (below (past (r w)))
-      (met-row o (room (past (r w))) (from (r w) .args .n) (from (r w) .pre .1 .0) (below (past (r w))) (meant (r w .adds-of .result)) (row-eq (r w) o) (applied (a w) _ (w .before .before .now .given .1)))
-      (writes c .write-row .ensures ∙ ap (λ (x : Row). row-written (from (r w) .args .nodes .now) (from (r w) .args .live .kept) (row-numbers (from (r w) .args .n) (x .gives) (from (r w) .args .live .entries) (from (r w) .args .live .links))) (row-eq (r w) o))
-      refl
+    offer-kept o (room (past (r w))) (from (r w) .args .n) (from (r w) .pre .1 .0) (below (past (r w)))
+    (met-row o (room (past (r w))) (from (r w) .args .n) (from (r w) .pre .1 .0) (below (past (r w))) (meant (r w .adds-of .result)) (row-eq (r w) o) (applied (a w) _ (w .before .before .now .given .1)))
+    (writes c .write-row .ensures ∙ ap (λ (x : Row). row-written (from (r w) .args .nodes .now) (from (r w) .args .live .kept) (row-numbers (from (r w) .args .n) (x .gives) (from (r w) .args .live .entries) (from (r w) .args .live .links))) (row-eq (r w) o))
+    refl
 
 pub offer-spec : {M : Type 1} → statement M
 offer-spec =
