@@ -47,7 +47,7 @@ fn bound(b: Bound) {
     }
 }
 
-pub fn title(n: u16) {
+pub(super) fn title(n: u16) {
     match n {
         0 => text(
             b"# A table with room for 8192 entries. Each is free, unit, or a sum or a product of two entries.\n",
@@ -69,7 +69,7 @@ pub fn title(n: u16) {
 }
 
 // An entry added to so many: the live counts say whether it is there now. `there`: whether its parts are.
-pub fn added(b: Bound, entries: u16, there: bool, live: Mark) {
+pub(super) fn added(b: Bound, entries: u16, there: bool, live: Mark) {
     text(b"add ");
     bound(b);
     if entries < live.entries {
@@ -83,7 +83,7 @@ pub fn added(b: Bound, entries: u16, there: bool, live: Mark) {
     }
 }
 
-pub fn joined(a: u16, b: u16, verdict: Verdict, live: Mark) {
+pub(super) fn joined(a: u16, b: u16, verdict: Verdict, live: Mark) {
     pair(b"join ", a, b);
     match verdict {
         Verdict::Missing => text(b": no such entry\n"),
@@ -100,13 +100,13 @@ pub fn joined(a: u16, b: u16, verdict: Verdict, live: Mark) {
     }
 }
 
-pub fn missing(a: u16) {
+pub(super) fn missing(a: u16) {
     text(b"entry ");
     number(a);
     text(b": no such entry\n");
 }
 
-pub fn class(a: u16, root: u16, b: Bound) {
+pub(super) fn class(a: u16, root: u16, b: Bound) {
     text(b"entry ");
     number(a);
     text(b": root ");
@@ -116,33 +116,33 @@ pub fn class(a: u16, root: u16, b: Bound) {
     text(b"\n");
 }
 
-pub fn taken(n: u16, live: Mark) {
+pub(super) fn taken(n: u16, live: Mark) {
     text(b"take mark ");
     number(n);
     text(b": ");
     counts(live);
 }
 
-pub fn no_room(n: u16) {
+pub(super) fn no_room(n: u16) {
     text(b"take mark ");
     number(n);
     text(b": no room\n");
 }
 
-pub fn back(n: u16, live: Mark) {
+pub(super) fn back(n: u16, live: Mark) {
     text(b"back to mark ");
     number(n);
     text(b": ");
     counts(live);
 }
 
-pub fn no_mark(n: u16) {
+pub(super) fn no_mark(n: u16) {
     text(b"back to mark ");
     number(n);
     text(b": no such mark\n");
 }
 
-pub fn grown(form: Form, n: u16, links: u16, live: Mark) {
+pub(super) fn grown(form: Form, n: u16, links: u16, live: Mark) {
     match form {
         Form::Chain => text(b"chain of "),
         Form::Star => text(b"star of "),

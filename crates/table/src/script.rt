@@ -29,7 +29,7 @@ pub const SMALL: u16 = 100;
 
 pub const END: u16 = 117;
 
-pub fn order_at(at: u16) -> Order {
+pub(super) fn order_at(at: u16) -> Order {
     match at {
         0 => Order::Title(0),
         1 => Order::Add(Bound::Free),

@@ -380,7 +380,7 @@ fn step(
 }
 
 // Carries out the orders from one up to another on a table that is empty.
-pub fn run(
+pub(super) fn run(
     parent: &mut [u16],
     rank: &mut [u16],
     shape: &mut [u16],

@@ -2,7 +2,7 @@
 -- the table of nodes.
 use mathlib.Core.Path.{_≡_, refl, sym, ap, _∙_}
 use mathlib.Core.Logic.{by-cases}
-use mathlib.Core.List.{List, [], _∷_, _++_, List·Memᴰ, List·Memᴰ·head, List·Memᴰ·tail}
+use mathlib.Core.List.{List, [], _∷_, _++_}
 use Prim.Native.Nat.{ℕ, _+_, _*_, _^_, _≤_, _<_}
 use native.Mathlib.Decide.{decLe, decLt}
 use native.Mathlib.Omega.{arith}
@@ -10,17 +10,15 @@ use lib.ListN.{length, getD, take, length-append, List·getD-append}
 use lib.Seq.{take-all, take-length, take-append-le, getD-append-add, getD-at}
 use Rattle.classes.specs.Table.{Table, limit}
 use Rattle.classes.specs.Promises.{Run}
-use Rattle.classes.proofs.Bounds.{merges-entries}
-use Rattle.types.specs.Layout.{Numbered, Program, Proper, arrow, arrow-of, row-of}
+use Rattle.types.specs.Layout.{Program, Proper, arrow, arrow-of, row-of}
 use Rattle.types.specs.Answers.{Below}
 use Rattle.types.specs.States.{entered, Meets, row-numbers, Standing}
-use Rattle.types.specs.States.Meets.{done, next}
 use Rattle.types.specs.States.Standing.{begun, kept}
 use Rattle.types.specs.declared.Node.{Node}
 use Rattle.types.specs.declared.arrow.Arrow.{Arrow}
-use Rattle.types.specs.Applying.{Fitting}
+use Rattle.types.specs.Applying.{Fitting, Named}
 use Rattle.types.proofs.Rows.{row-fitting, row-needs-live, row-few-entries}
-use Rattle.types.proofs.Entering.{entered-run, entered-entries}
+use Rattle.types.proofs.Entering.{entered-stands, entered-run, entered-entries, meets-run}
 use Rattle.types.proofs.Stood.{Stood, stood}
 use Rattle.types.proofs.Fixed.{standing-fixed}
 
@@ -70,14 +68,6 @@ whole {ns} {p} {ms} {t} s =
       links-at = λ h. absurd (omega arith);
     }
 
--- a run goes on over rules that are joined, all of them about entries
-run-met : {from t u : Table} {rs : List Numbered} → Meets t rs u →
-    ((q : Numbered) → List·Memᴰ q rs → (q .rule .one < t .entries) × (q .rule .other < t .entries)) → Run from t → Run from u
-run-met done live r = r
-run-met (next {r = q} j m) live r =
-    let named = live q (List·Memᴰ·head refl) in
-    run-met m (λ x k. rw (merges-entries j) (live x (List·Memᴰ·tail k))) (Run.joins (q .rule .one) (q .rule .other) r (named .0) (named .1) j)
-
 -- one node more: the run goes on over its entries and its rules, and its row has the mark of the table before it
 module _ {rows : ℕ} {ns : List Node} {p : Program} {ms : List ℕ} {t u : Table} (small : rows < 2 ^ 16) (room : 33 + 8 * (length ns + 1) ≤ rows)
     (n : Node) (s : Standing rows ns p ms t) (proper : Proper n) (below : Below (length ns) n)
@@ -95,12 +85,12 @@ module _ {rows : ℕ} {ns : List Node} {p : Program} {ms : List ℕ} {t u : Tabl
   enough : t .entries + length (row-of p n .entries) ≤ limit t
   enough = omega (arith, before .few, before .limit-is, row-few-entries p n)
 
-  live : (q : Numbered) → List·Memᴰ q (row-of p n .needs) →
-      (q .rule .one < entered t (row-of p n .entries) .entries) × (q .rule .other < entered t (row-of p n .entries) .entries)
+  live : Named (entered t (row-of p n .entries) .entries) (row-of p n .needs)
   live q k = rw (entered-entries t (row-of p n .entries), before .entries-are) (row-needs-live p n (before .ranged) proper children q k)
 
   run-on : {from : Table} → Run from t → Run from u
-  run-on r = run-met m live (entered-run (before .stands) (row-of p n .entries) fit enough r)
+  run-on r =
+      meets-run (entered-stands (before .stands) (row-of p n .entries) fit enough) live m (entered-run (before .stands) (row-of p n .entries) fit enough r)
 
   -- what its row says of the table before it
   mark-at : (j : ℕ) (f : Table → ℕ) → j < 7 → getD (row-after p t n) j 0 ≡ f t →
