@@ -12,7 +12,7 @@ use Rattle.classes.specs.Promises.{Run, Marked}
 use Rattle.classes.specs.Promises.Run.{here}
 use Rattle.classes.specs.declared.Bound.{Bound}
 use Rattle.classes.proofs.Judging.{made-stands}
-use Rattle.types.specs.Layout.{Row, Numbered}
+use Rattle.nodes.specs.Layout.{Row, Numbered}
 use Rattle.types.specs.States.{entered, Stops}
 use Rattle.types.specs.Applying.{Fitting, Named, Enterable, Meetable, Applicable}
 use Rattle.types.specs.Applying.Fitting.{one-more}

@@ -10,12 +10,12 @@ use lib.ListN.{length, getD, take, length-append, List·getD-append}
 use lib.Seq.{take-all, take-length, take-append-le, getD-append-add, getD-at}
 use Rattle.classes.specs.Table.{Table, limit}
 use Rattle.classes.specs.Promises.{Run}
-use Rattle.types.specs.Layout.{Program, Proper, arrow, arrow-of, row-of}
+use Rattle.nodes.specs.Layout.{Program, Proper, arrow, arrow-of, row-of}
 use Rattle.types.specs.Answers.{Below}
 use Rattle.types.specs.States.{entered, Meets, row-numbers, Standing}
 use Rattle.types.specs.States.Standing.{begun, kept}
-use Rattle.types.specs.declared.Node.{Node}
-use Rattle.types.specs.declared.arrow.Arrow.{Arrow}
+use Rattle.nodes.specs.declared.Node.{Node}
+use Rattle.nodes.specs.declared.arrow.Arrow.{Arrow}
 use Rattle.types.specs.Applying.{Fitting, Named}
 use Rattle.types.proofs.Rows.{row-fitting, row-needs-live, row-few-entries}
 use Rattle.types.proofs.Entering.{entered-stands, entered-run, entered-entries, meets-run}

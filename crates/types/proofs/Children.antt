@@ -8,11 +8,11 @@ use Prim.Native.Nat.{ℕ, suc, _-_, _≤_, _<_}
 use native.Mathlib.Omega.{arith}
 use lib.ListN.{length, getD, take, length-take, List·getD-eq-default}
 use lib.Seq.{getD-take}
-use Rattle.types.specs.Layout.{children}
+use Rattle.nodes.specs.Layout.{children}
 use Rattle.types.specs.Answers.{Below}
 use Rattle.types.specs.States.{first-field, second-field}
-use Rattle.types.specs.declared.Node.{Node}
-use Rattle.types.specs.declared.Node.the-variants.{Iden, Unit, InjL, InjR, Take, Drop, Comp, Case, AssertL, AssertR, Pair, Disconnect, DisconnectHole, Witness, Fail, Word}
+use Rattle.nodes.specs.declared.Node.{Node}
+use Rattle.nodes.specs.declared.Node.the-variants.{Iden, Unit, InjL, InjR, Take, Drop, Comp, Case, AssertL, AssertR, Pair, Disconnect, DisconnectHole, Witness, Fail, Word}
 
 -- what is known of each node: its children are the first of its fields, and a field with no child is 0 in the second place
 record Fielded (n : Node) : Type 0 where

@@ -11,9 +11,9 @@ use Rattle.types.specs.Answers.{Answered}
 use Rattle.types.specs.Answers.Answered.{malformed, full, no-child, keeps, refuses, takes-back, too-far}
 use Rattle.types.specs.Runs.{Runs, offers}
 use Rattle.types.specs.Runs.Runs.{ends, goes}
-use Rattle.types.specs.declared.Node.{Node}
-use Rattle.types.specs.declared.Record.{Record}
-use Rattle.types.specs.declared.Record.the-variants.{Offer}
+use Rattle.nodes.specs.declared.Node.{Node}
+use Rattle.nodes.specs.declared.Record.{Record}
+use Rattle.nodes.specs.declared.Record.the-variants.{Offer}
 use Rattle.types.specs.declared.Answer.{Answer}
 use Rattle.types.specs.declared.Answer.the-variants.{Kept}
 use Rattle.types.proofs.Once.{runs-once}

@@ -21,7 +21,7 @@ use Rattle.classes.proofs.Bounds.{bounds-added, merges-bounds, merges-entries}
 use Rattle.classes.proofs.Closing.{made-good}
 use Rattle.classes.proofs.GivenBack.{run-links}
 use Rattle.classes.proofs.Judging.{added-stands, join-judged, merges-once}
-use Rattle.types.specs.Layout.{Numbered, rules-of}
+use Rattle.nodes.specs.Layout.{Numbered, rules-of}
 use Rattle.types.specs.States.{entered, Meets, Stops}
 use Rattle.types.specs.Applying.{Fitting, Named}
 

@@ -3,12 +3,12 @@ use mathlib.Core.Path.{_≡_, refl, sym, subst, subst₃}
 use mathlib.Core.List.{List, concat-ne-nil}
 use Prim.Native.Nat.{ℕ}
 use Rattle.classes.specs.Table.{Table, limit}
-use Rattle.types.specs.Layout.{Program, row-of}
+use Rattle.nodes.specs.Layout.{Program, row-of}
 use Rattle.types.specs.States.{State, entered, Meets, Standing, Opened}
 use Rattle.types.specs.States.Standing.{begun, kept}
 use Rattle.types.specs.Calls.{Called}
-use Rattle.types.specs.declared.Node.{Node}
-use Rattle.types.specs.declared.Record.{Record}
+use Rattle.nodes.specs.declared.Node.{Node}
+use Rattle.nodes.specs.declared.Record.{Record}
 use Rattle.types.specs.declared.Answer.{Answer}
 use Rattle.types.proofs.Entering.{meets-once}
 use Rattle.types.proofs.Ends.{same-ends}

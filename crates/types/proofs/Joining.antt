@@ -20,14 +20,14 @@ use Rattle.classes.specs.declared.context.Joined.{Joined}
 use Rattle.classes.specs.Forest.{Forest}
 use Rattle.classes.proofs.Closing.{made-good}
 use Rattle.classes.proofs.GivenBack.{run-forest}
-use Rattle.types.specs.Layout.{Numbered, says}
-use Rattle.types.specs.Meant.{meant-rule, meant-needs}
+use Rattle.nodes.specs.Layout.{Numbered, says}
+use Rattle.nodes.specs.Meant.{meant-rule, meant-needs}
 use Rattle.types.specs.States.{Meets, Stops}
 use Rattle.types.specs.States.Meets.{done, next}
 use Rattle.types.specs.States.Stops.{here as stops-here, later}
 use Rattle.types.specs.Applying.{Named, Meetable}
-use Rattle.types.specs.declared.arrow.Needs.{Needs}
-use Rattle.types.specs.declared.arrow.Rule.{Rule}
+use Rattle.nodes.specs.declared.arrow.Needs.{Needs}
+use Rattle.nodes.specs.declared.arrow.Rule.{Rule}
 
 -- as many rules as the count says, but never more than four
 pub needs-count : (l : Needs) → length (meant-needs l) ≡ min (l .count) 4

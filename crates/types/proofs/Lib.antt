@@ -1,5 +1,4 @@
 pub mod Applies
-pub mod Arms
 pub mod Backward
 pub mod Begun
 pub mod Children

@@ -10,17 +10,17 @@ use lib.ListN.{length, getD, take, drop, replicate, length-append, length-replic
 use lib.Seq.{take-at, drop-append-add, getD-append-add}
 use Rattle.classes.specs.Table.{Table, table, limit}
 use Rattle.classes.proofs.Rows.{replicate-blank}
-use Rattle.types.specs.Layout.{Row, Proper, says, arrow, adds, arrow-of, children, row-of, grown, built}
+use Rattle.nodes.specs.Layout.{Row, Proper, says, arrow, adds, arrow-of, children, row-of, grown, built}
 use Rattle.types.specs.Answers.{Below, Answered}
 use Rattle.types.specs.Answers.Answered.{full, no-child, keeps, refuses}
 use Rattle.types.specs.States.{State, state, entered, Meets, Stops, Standing, Opened, Limits, row-numbers}
 use Rattle.types.specs.States.Standing.{kept}
 use Rattle.types.specs.Applying.{row-written, Fitting, Named, Applicable}
 use Rattle.types.specs.Calls.{Called}
-use Rattle.types.specs.declared.Node.{Node}
-use Rattle.types.specs.declared.Record.the-variants.{Offer}
+use Rattle.nodes.specs.declared.Node.{Node}
+use Rattle.nodes.specs.declared.Record.the-variants.{Offer}
 use Rattle.types.specs.declared.Answer.the-variants.{Kept, Full, NoChild, Clashes}
-use Rattle.types.specs.declared.arrow.Arrow.{Arrow}
+use Rattle.nodes.specs.declared.arrow.Arrow.{Arrow}
 use Rattle.types.proofs.Rows.{row-fitting, row-needs-live, row-few-entries}
 use Rattle.types.proofs.Stood.{Stood, stood, offer-fits, offer-clashes}
 use Rattle.types.proofs.Backward.{source-at, target-at}

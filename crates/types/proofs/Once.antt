@@ -7,7 +7,7 @@ use lib.ListN.{length, getD}
 use Rattle.classes.specs.Forced.{Clash}
 use Rattle.classes.specs.Count.{Classes}
 use Rattle.classes.proofs.Counting.{counted-once}
-use Rattle.types.specs.Layout.{says}
+use Rattle.nodes.specs.Layout.{says}
 use Rattle.types.specs.Answers.{before, offered, needs, rules-to, Offered, Answered}
 use Rattle.types.specs.Answers.Offered.{fits, clashes}
 use Rattle.types.specs.Answers.Answered.{malformed, full, no-child, keeps, refuses, takes-back, too-far}
@@ -15,8 +15,8 @@ use Rattle.types.specs.States.{State, Opened}
 use Rattle.types.specs.Calls.{Called}
 use Rattle.types.specs.Runs.{Runs}
 use Rattle.types.specs.Runs.Runs.{ends, goes}
-use Rattle.types.specs.declared.Node.{Node}
-use Rattle.types.specs.declared.Record.{Record}
+use Rattle.nodes.specs.declared.Node.{Node}
+use Rattle.nodes.specs.declared.Record.{Record}
 use Rattle.types.specs.declared.Answer.{Answer}
 use Rattle.types.specs.declared.Answer.the-variants.{Kept, Clashes}
 use Rattle.types.proofs.Fixed.{same-nodes-same-state}

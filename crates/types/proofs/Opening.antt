@@ -6,7 +6,7 @@ use native.Mathlib.Omega.{arith}
 use lib.ListN.{length, replicate, length-replicate}
 use Rattle.classes.specs.Table.{table, fresh}
 use Rattle.classes.specs.Made.{Made}
-use Rattle.types.specs.Layout.{standing}
+use Rattle.nodes.specs.Layout.{standing}
 use Rattle.types.specs.States.{entered}
 use Rattle.types.specs.Applying.{Enterable}
 use Rattle.types.proofs.Stood.{standing-fitting, standing-length}

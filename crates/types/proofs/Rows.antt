@@ -10,13 +10,13 @@ use lib.Seq.{getD-at}
 use Rattle.classes.specs.Made.{Within}
 use Rattle.classes.specs.declared.Bound.{Bound}
 use Rattle.classes.specs.declared.Bound.the-variants.{Free, Unit as Unit′, Sum, Product}
-use Rattle.types.specs.Layout.{arrow, Numbered, Program, Proper, Row, adds, opened, standing, row-of, grown, arrow-of}
+use Rattle.nodes.specs.Layout.{arrow, Numbered, Program, Proper, Row, adds, opened, standing, row-of, grown, arrow-of}
 use Rattle.types.specs.Answers.{Below}
 use Rattle.types.specs.Applying.{Fitting}
 use Rattle.types.specs.Applying.Fitting.{none, one-more}
-use Rattle.types.specs.declared.Node.{Node}
-use Rattle.types.specs.declared.Node.the-variants.{Iden, Unit, InjL, InjR, Take, Drop, Comp, Case, AssertL, AssertR, Pair, Disconnect, DisconnectHole, Witness, Fail, Word}
-use Rattle.types.specs.declared.arrow.Arrow.{Arrow}
+use Rattle.nodes.specs.declared.Node.{Node}
+use Rattle.nodes.specs.declared.Node.the-variants.{Iden, Unit, InjL, InjR, Take, Drop, Comp, Case, AssertL, AssertR, Pair, Disconnect, DisconnectHole, Witness, Fail, Word}
+use Rattle.nodes.specs.declared.arrow.Arrow.{Arrow}
 
 -- that the numbers of a row name entries, said by orders alone, so that `omega` proves a whole row at once: the parts of each bound are below
 -- its own number, the rules and the arrow below the number of entries after the row

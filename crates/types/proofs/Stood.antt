@@ -12,10 +12,10 @@ use Rattle.classes.specs.Promises.Run.{here}
 use Rattle.classes.proofs.Closing.{made-good}
 use Rattle.classes.proofs.GivenBack.{run-links}
 use Rattle.classes.proofs.Judging.{fresh-stands}
-use Rattle.types.specs.Layout.{Program, Proper, squares, says, row-of, opened, grown, built-on, built, rules-of, standing}
+use Rattle.nodes.specs.Layout.{Program, Proper, squares, says, row-of, opened, grown, built-on, built, rules-of, standing}
 use Rattle.types.specs.Answers.{Below, Offered}
 use Rattle.types.specs.States.{entered, Meets, Stops, Standing, row-numbers}
-use Rattle.types.specs.declared.Node.{Node}
+use Rattle.nodes.specs.declared.Node.{Node}
 use Rattle.types.specs.declared.Answer.the-variants.{Kept, Clashes}
 use Rattle.types.specs.Applying.{Fitting}
 use Rattle.types.proofs.Rows.{Ranged, opened-ranged, grown-ranged, row-fitting, row-needs-live, row-few-entries}

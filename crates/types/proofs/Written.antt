@@ -8,8 +8,8 @@ use lib.ListN.{length, set, take, drop, replicate, length-append, length-drop, l
 use lib.Seq.{sets-eq, length-take-le, drop-cons, set-at, append-snoc}
 use Rattle.types.specs.States.{kind-number, first-field, second-field, row-numbers}
 use Rattle.types.specs.Applying.{row-written, rows-cleared}
-use Rattle.types.specs.declared.Node.{Node}
-use Rattle.types.specs.declared.arrow.Arrow.{Arrow}
+use Rattle.nodes.specs.declared.Node.{Node}
+use Rattle.nodes.specs.declared.arrow.Arrow.{Arrow}
 
 -- a row's seven stores
 pub row-stored : (nodes : List ℕ) (i : ℕ) (n : Node) (a : Arrow) (entries links : ℕ) {x y z : ℕ} → 7 * i + 7 ≤ length nodes →

@@ -5,10 +5,10 @@ use Prim.Native.Nat.{ℕ, suc, _+_, _<_, _≤_}
 use lib.ListN.{length, take, getD}
 use Rattle.classes.specs.Forced.{Rule, Clash}
 use Rattle.classes.specs.Count.{Classes}
-use Rattle.types.specs.Layout.{Numbered, says, Program, children, row-of, grown, built, rules-of}
-use Rattle.types.specs.declared.Node.{Node}
-use Rattle.types.specs.declared.Record.{Record}
-use Rattle.types.specs.declared.Record.the-variants.{Offer, TakeBack, Malformed as Misshapen}
+use Rattle.nodes.specs.Layout.{Numbered, says, Program, children, row-of, grown, built, rules-of}
+use Rattle.nodes.specs.declared.Node.{Node}
+use Rattle.nodes.specs.declared.Record.{Record}
+use Rattle.nodes.specs.declared.Record.the-variants.{Offer, TakeBack, Malformed as Misshapen}
 use Rattle.types.specs.declared.Answer.{Answer}
 use Rattle.types.specs.declared.Answer.the-variants.{Kept, TakenBack, Closed, Malformed, Full, NoChild, Clashes, Endless, TooFar}
 

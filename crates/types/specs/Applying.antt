@@ -6,7 +6,7 @@ use lib.ListN.{length, getD, take, drop, replicate}
 use Rattle.classes.specs.Table.{Table, limit}
 use Rattle.classes.specs.Made.{Within, Made}
 use Rattle.classes.specs.declared.Bound.{Bound}
-use Rattle.types.specs.Layout.{Numbered, says, Row}
+use Rattle.nodes.specs.Layout.{Numbered, says, Row}
 use Rattle.types.specs.States.{entered, Meets, Stops}
 use Rattle.types.specs.declared.state.Met.{Met}
 use Rattle.types.specs.declared.state.Met.the-variants.{All, Clash as MetClash}

@@ -5,7 +5,7 @@ use lib.ListN.{length}
 use Rattle.classes.specs.Table.{limit}
 use Rattle.types.specs.Answers.{Answered}
 use Rattle.types.specs.States.{State, Opened}
-use Rattle.types.specs.declared.Record.{Record}
+use Rattle.nodes.specs.declared.Record.{Record}
 use Rattle.types.specs.declared.Answer.{Answer}
 
 -- a record put to an opened state: the answer is the one that the nodes kept fix, the state is opened with the nodes then kept, and its tables are

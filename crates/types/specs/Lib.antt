@@ -1,10 +1,7 @@
--- What a reader must believe of nodes, records and answers, in reading order.
-pub mod Layout
-pub mod Records
-pub mod Meant
+-- What a reader must believe of answers and states, in reading order. What nodes and records are stands in `nodes`.
 pub mod Answers
-pub mod Texts
 pub mod States
-pub mod Applying
 pub mod Calls
 pub mod Runs
+pub mod Values
+pub mod Applying

@@ -2,9 +2,9 @@
 use mathlib.Core.List.{List, [], _∷_, map}
 use Prim.Native.Nat.{ℕ}
 use Rattle.types.specs.Answers.{Answered}
-use Rattle.types.specs.declared.Node.{Node}
-use Rattle.types.specs.declared.Record.{Record}
-use Rattle.types.specs.declared.Record.the-variants.{Offer}
+use Rattle.nodes.specs.declared.Node.{Node}
+use Rattle.nodes.specs.declared.Record.{Record}
+use Rattle.nodes.specs.declared.Record.the-variants.{Offer}
 use Rattle.types.specs.declared.Answer.{Answer}
 
 pub data Runs (most : ℕ) : List Node → List Record → List Answer → List Node → Type 0 where

@@ -7,11 +7,11 @@ use Rattle.classes.specs.Table.{Table, limit, fresh, added}
 use Rattle.classes.specs.Merging.{Verdict, Merges}
 use Rattle.classes.specs.Merging.Verdict.{fits, clash}
 use Rattle.classes.specs.declared.Bound.{Bound}
-use Rattle.types.specs.Layout.{Numbered, Program, Proper, standing, opened, row-of, grown}
+use Rattle.nodes.specs.Layout.{Numbered, Program, Proper, standing, opened, row-of, grown}
 use Rattle.types.specs.Answers.{Below}
-use Rattle.types.specs.declared.Node.{Node}
-use Rattle.types.specs.declared.Node.the-variants.{Iden, Unit, InjL, InjR, Take, Drop, Comp, Case, AssertL, AssertR, Pair, Disconnect, DisconnectHole, Witness, Fail, Word}
-use Rattle.types.specs.declared.arrow.Arrow.{Arrow}
+use Rattle.nodes.specs.declared.Node.{Node}
+use Rattle.nodes.specs.declared.Node.the-variants.{Iden, Unit, InjL, InjR, Take, Drop, Comp, Case, AssertL, AssertR, Pair, Disconnect, DisconnectHole, Witness, Fail, Word}
+use Rattle.nodes.specs.declared.arrow.Arrow.{Arrow}
 
 -- the tables, the nodes' rows, and how many nodes are kept
 pub record State : Type 0 where

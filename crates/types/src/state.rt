@@ -5,18 +5,18 @@
 // it). The live counts go in and out by value. How many nodes there is room for is the number of rows of `nodes`.
 
 use super::Answer;
-use super::Node;
-use super::arrow;
-use super::arrow::Adds;
-use super::arrow::Arrow;
-use super::arrow::Entries;
-use super::arrow::Needs;
 use classes::Bound;
 use classes::Mark;
 use classes::context;
 use classes::context::Added;
 use classes::context::Joined;
 use classes::undo;
+use nodes::Node;
+use nodes::arrow;
+use nodes::arrow::Adds;
+use nodes::arrow::Arrow;
+use nodes::arrow::Entries;
+use nodes::arrow::Needs;
 ghost use mathlib.Core.Path.{_≡_};
 ghost use mathlib.Core.Bool.{true, false};
 ghost use mathlib.Core.List.{List};
@@ -25,14 +25,14 @@ ghost use lib.ListN.{length, getD, replicate};
 ghost use Rattle.classes.specs.Table.{table, fresh};
 ghost use Rattle.classes.specs.Promises.{made-links};
 ghost use Rattle.classes.specs.declared.Bound.the-variants.{Free};
-ghost use Rattle.types.specs.Layout.{children, standing, Proper};
-ghost use Rattle.types.specs.Layout.{arrow as from-to};
-ghost use Rattle.types.specs.Meant.{meant, meant-entries, meant-needs};
+ghost use Rattle.nodes.specs.Layout.{children, standing, Proper};
+ghost use Rattle.nodes.specs.Layout.{arrow as from-to};
+ghost use Rattle.nodes.specs.Meant.{meant, meant-entries, meant-needs};
 ghost use Rattle.types.specs.Answers.{Below};
 ghost use Rattle.types.specs.States.{state, entered, kind-number, first-field, second-field, row-numbers, Opened};
 ghost use Rattle.types.specs.Applying.{row-written, rows-cleared, Enterable, Meetable, Meeting, met-links, Applicable, Applying, applied-entries, applied-links};
 ghost use Rattle.types.specs.Calls.{Called};
-ghost use Rattle.types.specs.declared.Record.the-variants.{Offer, TakeBack};
+ghost use Rattle.nodes.specs.declared.Record.the-variants.{Offer, TakeBack};
 
 // Numbers in a node's row, and where they stand in it.
 const ROW: usize = 7;

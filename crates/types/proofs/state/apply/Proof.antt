@@ -3,7 +3,7 @@ use mathlib.Core.Path.{_≡_, refl, sym, ap, _∙_, subst}
 use Prim.Native.Nat.{ℕ}
 use Rattle.classes.specs.Table.{Table, table}
 use Rattle.types.specs.States.{entered}
-use Rattle.types.specs.Meant.{meant, meant-entries}
+use Rattle.nodes.specs.Meant.{meant, meant-entries}
 use Rattle.types.specs.Applying.{Meeting, met-links}
 use Rattle.types.specs.declared.state.Met.{Met}
 use Rattle.types.specs.declared.state.Met.the-variants.{All, Clash}

@@ -5,7 +5,7 @@ use Prim.Native.Nat.{ℕ, _<_}
 use native.Mathlib.Omega.{arith}
 use lib.ListN.{length}
 use borrow.Author.Tests.{ltb-true, ltb-false}
-use Rattle.types.specs.Layout.{children}
+use Rattle.nodes.specs.Layout.{children}
 use Rattle.types.specs.States.{first-field}
 use Rattle.types.proofs.Children.{none-below, first-past, one-below, two-below, second-past}
 use borrow.Author.Needs.{needs}

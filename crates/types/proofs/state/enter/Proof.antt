@@ -6,7 +6,7 @@ use lib.ListN.{length, getD, length-take}
 use lib.Seq.{getD-take}
 use Rattle.classes.specs.declared.Bound.the-variants.{Free}
 use Rattle.classes.specs.declared.context.Added.the-variants.{Entry}
-use Rattle.types.specs.Meant.{meant-entries}
+use Rattle.nodes.specs.Meant.{meant-entries}
 use Rattle.types.proofs.EachEntry.{Adding, adding-begins, adding-small, adding-answer, adding-again, adding-ends}
 use borrow.Author.Needs.{needs}
 use Rattle.types.proofs.state.enter.Statement.{statement}

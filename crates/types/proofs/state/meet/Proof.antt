@@ -11,8 +11,8 @@ use Rattle.classes.specs.declared.context.Joined.{Joined}
 use Rattle.classes.specs.declared.context.Joined.the-variants.{Done, Clash}
 use Rattle.classes.specs.Forced.{equal}
 use Rattle.classes.specs.Merging.{Merges}
-use Rattle.types.specs.Layout.{says}
-use Rattle.types.specs.Meant.{meant-needs}
+use Rattle.nodes.specs.Layout.{says}
+use Rattle.nodes.specs.Meant.{meant-needs}
 use Rattle.types.proofs.Joining.{needs-count, need-read, Joins, joins-begin, joins-again, joins-stop, joins-end, one-live, other-live, links-fit, merges-as}
 use Rattle.types.proofs.state.meet.Statement.{statement}
 use Rattle.types.proofs.state.meet.Tie as tie

@@ -5,12 +5,12 @@ use native.Mathlib.Omega.{arith}
 use borrow.Author.Tests.{not-true, not-false}
 use lib.ListN.{length, getD}
 use Rattle.classes.specs.Table.{Table, table, limit}
-use Rattle.types.specs.Layout.{Row, arrow, adds, children, row-of}
-use Rattle.types.specs.Meant.{meant}
+use Rattle.nodes.specs.Layout.{Row, arrow, adds, children, row-of}
+use Rattle.nodes.specs.Meant.{meant}
 use Rattle.types.specs.Answers.{Below}
 use Rattle.types.specs.States.{State, state, row-numbers, Opened}
 use Rattle.types.specs.Applying.{row-written, Applying, applied-entries, applied-links}
-use Rattle.types.specs.declared.arrow.Arrow.{Arrow}
+use Rattle.nodes.specs.declared.arrow.Arrow.{Arrow}
 use Rattle.types.specs.declared.state.Applied.{Applied}
 use Rattle.types.proofs.Children.{second-child}
 use Rattle.types.proofs.Offering.{offer-full, row-there, offer-no-child, child-row, row-is, entries-fit, applicable, offer-refused, kept-fits, met-row, links-more, offer-kept}

@@ -4,7 +4,7 @@ use Prim.Native.Nat.{ℕ, _-_, _<_}
 use native.Mathlib.Omega.{arith}
 use lib.ListN.{length}
 use Rattle.classes.specs.declared.context.Added.the-variants.{Entry}
-use Rattle.types.specs.Layout.{standing}
+use Rattle.nodes.specs.Layout.{standing}
 use Rattle.types.proofs.Stood.{standing-length}
 use Rattle.types.proofs.Opening.{opening-begins, opening-ends}
 use Rattle.types.proofs.EachEntry.{Adding, adding-answer, adding-again}

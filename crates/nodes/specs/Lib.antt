@@ -1,0 +1,5 @@
+-- What a reader must believe of nodes and records, in reading order.
+pub mod Layout
+pub mod Records
+pub mod Texts
+pub mod Meant

@@ -1,0 +1,46 @@
+-- `types::calls::open` meets its contract, which is the core's on the state's own arrays.
+use Rattle.types.proofs.Begun.{opened-first}
+use mathlib.Core.Path.{refl}
+use native.Mathlib.Omega.{arith}
+use borrow.Author.Needs.{needs}
+use Rattle.types.proofs.calls.open.Statement.{statement}
+use Rattle.types.proofs.calls.open.Tie as tie
+
+slice-aggregate-open : tie.Need-slice-aggregate-open
+slice-aggregate-open c = search needs
+
+slice-aggregate-open-2 : tie.Need-slice-aggregate-open-2
+slice-aggregate-open-2 c = search needs
+
+slice-aggregate-open-3 : tie.Need-slice-aggregate-open-3
+slice-aggregate-open-3 c = search needs
+
+slice-aggregate-open-4 : tie.Need-slice-aggregate-open-4
+slice-aggregate-open-4 c = search needs
+
+slice-aggregate-open-5 : tie.Need-slice-aggregate-open-5
+slice-aggregate-open-5 c = search needs
+
+slice-aggregate-open-6 : tie.Need-slice-aggregate-open-6
+slice-aggregate-open-6 c = search needs
+
+open-requires : tie.Need-open-requires
+open-requires c κs = (8225, omega arith, omega arith, refl, refl, refl, refl, refl, refl)
+
+returns : tie.Need-returns
+returns c =
+    let o = c .before .before .before .before .before .before .open in
+    opened-first 1024 8225 (omega arith) (omega arith) (o .ensures .0) (o .ensures .1)
+
+pub open-spec : {M : Type 1} → statement M
+open-spec =
+    tie.close
+    (tie.spec
+    slice-aggregate-open
+    slice-aggregate-open-2
+    slice-aggregate-open-3
+    slice-aggregate-open-4
+    slice-aggregate-open-5
+    slice-aggregate-open-6
+    open-requires
+    returns)

@@ -1,0 +1,165 @@
+// The record calls on a state by value: the tables as arrays of numbers with their live counts, for at most 1,024 nodes.
+// Each call lends the arrays to the core once and builds the state again. A job uses the core itself, which copies nothing.
+
+use super::Answer;
+use super::state;
+use super::state::Live;
+use nodes::Node;
+ghost use mathlib.Core.Path.{_≡_};
+ghost use mathlib.Core.List.{[]};
+ghost use Rattle.nodes.specs.Layout.{Proper};
+ghost use Rattle.types.specs.States.{Opened};
+ghost use Rattle.types.specs.Values.{state-of};
+ghost use Rattle.types.specs.Calls.{Called};
+ghost use Rattle.nodes.specs.declared.Record.the-variants.{Offer, TakeBack};
+
+// The rows of the entries' tables, of the trail (three numbers for each link), of the pairs still to join (two for each entry),
+// and of the nodes' table (seven for each node): 33 + 8 × 1,024 entries, 1,024 nodes.
+const ENTRIES: usize = 8225;
+
+const TRAIL: usize = 24675;
+
+const PENDING: usize = 16450;
+
+const NODES: usize = 7168;
+
+pub struct State {
+    pub parent: [u16; 8225],
+    pub rank: [u16; 8225],
+    pub shape: [u16; 8225],
+    pub kind: [u16; 8225],
+    pub left: [u16; 8225],
+    pub right: [u16; 8225],
+    pub trail: [u16; 24675],
+    pub nodes: [u16; 7168],
+    pub live: Live,
+}
+
+// An answer and the state after it.
+pub struct Put {
+    pub answer: Answer,
+    pub state: State,
+}
+
+// The fresh state: the standing entries, and no node.
+pub fn open() -> State
+    ensures { λ r. ⌜ ((o : Opened 1024 (state-of r)) × (o .nodes ≡ [])) ⌝ }
+{
+    let mut parent = [0u16; ENTRIES];
+    let mut rank = [0u16; ENTRIES];
+    let mut shape = [0u16; ENTRIES];
+    let mut kind = [0u16; ENTRIES];
+    let mut left = [0u16; ENTRIES];
+    let mut right = [0u16; ENTRIES];
+    let trail = [0u16; TRAIL];
+    let nodes = [0u16; NODES];
+    let live = state::open(
+        &mut parent,
+        &mut rank,
+        &mut shape,
+        &mut kind,
+        &mut left,
+        &mut right,
+    );
+    State {
+        parent,
+        rank,
+        shape,
+        kind,
+        left,
+        right,
+        trail,
+        nodes,
+        live,
+    }
+}
+
+// Offers a node.
+pub fn offer(s: State, n: Node) -> Put
+    requires { ⌜ Opened 1024 (state-of s) × Proper n ⌝ }
+    ensures { λ r. ⌜ ((o : Opened 1024 (state-of s)) → Called 1024 (state-of s) o (Offer n) (r .answer) (state-of (r .state))) ⌝ }
+{
+    let mut parent = s.parent;
+    let mut rank = s.rank;
+    let mut shape = s.shape;
+    let mut kind = s.kind;
+    let mut left = s.left;
+    let mut right = s.right;
+    let mut trail = s.trail;
+    let mut nodes = s.nodes;
+    let mut pending = [0u16; PENDING];
+    let live = s.live;
+    let step = state::offer(
+        &mut parent,
+        &mut rank,
+        &mut shape,
+        &mut kind,
+        &mut left,
+        &mut right,
+        &mut trail,
+        &mut pending,
+        &mut nodes,
+        live,
+        n,
+    );
+    let answer = step.answer;
+    let live = step.live;
+    Put {
+        answer,
+        state: State {
+            parent,
+            rank,
+            shape,
+            kind,
+            left,
+            right,
+            trail,
+            nodes,
+            live,
+        },
+    }
+}
+
+// Takes back to the first `to` nodes.
+pub fn take_back(s: State, to: u16) -> Put
+    requires { ⌜ Opened 1024 (state-of s) ⌝ }
+    ensures { λ r. ⌜ ((o : Opened 1024 (state-of s)) → Called 1024 (state-of s) o (TakeBack to) (r .answer) (state-of (r .state))) ⌝ }
+{
+    let mut parent = s.parent;
+    let mut rank = s.rank;
+    let mut shape = s.shape;
+    let mut kind = s.kind;
+    let mut left = s.left;
+    let mut right = s.right;
+    let mut trail = s.trail;
+    let mut nodes = s.nodes;
+    let live = s.live;
+    let step = state::take_back(
+        &mut parent,
+        &mut rank,
+        &mut shape,
+        &mut kind,
+        &mut left,
+        &mut right,
+        &mut trail,
+        &mut nodes,
+        live,
+        to,
+    );
+    let answer = step.answer;
+    let live = step.live;
+    Put {
+        answer,
+        state: State {
+            parent,
+            rank,
+            shape,
+            kind,
+            left,
+            right,
+            trail,
+            nodes,
+            live,
+        },
+    }
+}
