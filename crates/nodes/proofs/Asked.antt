@@ -66,25 +66,29 @@ plain n p a b = spared a (spare b (Offer n)) (spared b (Offer n) (offers n p))
 one : (f : ℕ → Node) → ((i : ℕ) → Proper (f i)) → (a b : ℕ) → Sound (one-child f a b)
 one f p a b = spared b (Offer (f a)) (offers (f a) (p a))
 
+-- a node that is no word is proper
+small : 0 ≤ 31
+small = omega arith
+
 nodes-sound : Each nodes
 unfolding nodes
 nodes-sound =
     more (λ a b. malformed)
-    (more (plain Iden tt)
-    (more (plain Unit tt)
-    (more (one InjL (λ i. tt))
-    (more (one InjR (λ i. tt))
-    (more (one Take (λ i. tt))
-    (more (one Drop (λ i. tt))
-    (more (λ a b. offers (Comp a b) tt)
-    (more (λ a b. offers (Case a b) tt)
-    (more (one AssertL (λ i. tt))
-    (more (one AssertR (λ i. tt))
-    (more (λ a b. offers (Pair a b) tt)
-    (more (λ a b. offers (Disconnect a b) tt)
-    (more (one DisconnectHole (λ i. tt))
-    (more (plain Witness tt)
-    (more (plain Fail tt)
+    (more (plain Iden small)
+    (more (plain Unit small)
+    (more (one InjL (λ i. small))
+    (more (one InjR (λ i. small))
+    (more (one Take (λ i. small))
+    (more (one Drop (λ i. small))
+    (more (λ a b. offers (Comp a b) small)
+    (more (λ a b. offers (Case a b) small)
+    (more (one AssertL (λ i. small))
+    (more (one AssertR (λ i. small))
+    (more (λ a b. offers (Pair a b) small)
+    (more (λ a b. offers (Disconnect a b) small)
+    (more (one DisconnectHole (λ i. small))
+    (more (plain Witness small)
+    (more (plain Fail small)
     (more worded
     none))))))))))))))))
 

@@ -109,24 +109,28 @@ children Witness = []
 children Fail = []
 children (Word n) = []
 
+-- a word's n; 0 for any other node
+abbrev pub word-of : Node → ℕ
+word-of Iden = 0
+word-of Unit = 0
+word-of (InjL i) = 0
+word-of (InjR i) = 0
+word-of (Take i) = 0
+word-of (Drop i) = 0
+word-of (Comp i j) = 0
+word-of (Case i j) = 0
+word-of (AssertL i) = 0
+word-of (AssertR i) = 0
+word-of (Pair i j) = 0
+word-of (Disconnect i j) = 0
+word-of (DisconnectHole i) = 0
+word-of Witness = 0
+word-of Fail = 0
+word-of (Word n) = n
+
 -- a word's n is at most 31
 abbrev pub Proper : Node → Type 0
-Proper Iden = Prim.Unit {0}
-Proper Unit = Prim.Unit {0}
-Proper (InjL i) = Prim.Unit {0}
-Proper (InjR i) = Prim.Unit {0}
-Proper (Take i) = Prim.Unit {0}
-Proper (Drop i) = Prim.Unit {0}
-Proper (Comp i j) = Prim.Unit {0}
-Proper (Case i j) = Prim.Unit {0}
-Proper (AssertL i) = Prim.Unit {0}
-Proper (AssertR i) = Prim.Unit {0}
-Proper (Pair i j) = Prim.Unit {0}
-Proper (Disconnect i j) = Prim.Unit {0}
-Proper (DisconnectHole i) = Prim.Unit {0}
-Proper Witness = Prim.Unit {0}
-Proper Fail = Prim.Unit {0}
-Proper (Word n) = n ≤ 31
+Proper n = word-of n ≤ 31
 
 -- what a list of nodes comes to
 pub record Program : Type 0 where

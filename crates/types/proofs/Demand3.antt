@@ -8,7 +8,7 @@ use native.Mathlib.Omega.{arith}
 use lib.ListN.{length, take, length-append}
 use lib.Seq.{take-nil, take-all, take-append-le}
 use Rattle.types.specs.Answers.{Answered}
-use Rattle.types.specs.Answers.Answered.{malformed, full, no-child, keeps, refuses, takes-back, too-far}
+use Rattle.types.specs.Answers.Answered.{malformed, over-31, full, no-child, keeps, refuses, takes-back, too-far}
 use Rattle.types.specs.Runs.{Runs, offers}
 use Rattle.types.specs.Runs.Runs.{ends, goes}
 use Rattle.nodes.specs.declared.Node.{Node}
@@ -35,10 +35,11 @@ first-again (one-more {ks = ks} {n = n} a o) k = by-cases (decLe k (length ks))
 -- every record leaves such nodes, and so does a run
 answered-again : {most : ℕ} {kept then : List Node} {rec : Record} {answer : Answer} → Again most kept → Answered most kept rec answer then → Again most then
 answered-again a malformed = a
-answered-again a (full f) = a
-answered-again a (no-child l b) = a
-answered-again a (keeps l b o) = one-more a (keeps l b o)
-answered-again a (refuses l b o) = a
+answered-again a (over-31 u) = a
+answered-again a (full p f) = a
+answered-again a (no-child p l b) = a
+answered-again a (keeps p l b o) = one-more a (keeps p l b o)
+answered-again a (refuses p l b o) = a
 answered-again a (takes-back {k = k} h) = first-again a k
 answered-again a (too-far f) = a
 

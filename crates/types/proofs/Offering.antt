@@ -12,14 +12,14 @@ use Rattle.classes.specs.Table.{Table, table, limit}
 use Rattle.classes.proofs.Rows.{replicate-blank}
 use Rattle.nodes.specs.Layout.{Row, Proper, says, arrow, adds, arrow-of, children, row-of, grown, built}
 use Rattle.types.specs.Answers.{Below, Answered}
-use Rattle.types.specs.Answers.Answered.{full, no-child, keeps, refuses}
+use Rattle.types.specs.Answers.Answered.{over-31, full, no-child, keeps, refuses}
 use Rattle.types.specs.States.{State, state, entered, Meets, Stops, Standing, Opened, Limits, row-numbers}
 use Rattle.types.specs.States.Standing.{kept}
 use Rattle.types.specs.Applying.{row-written, Fitting, Named, Applicable}
 use Rattle.types.specs.Calls.{Called}
 use Rattle.nodes.specs.declared.Node.{Node}
 use Rattle.nodes.specs.declared.Record.the-variants.{Offer}
-use Rattle.types.specs.declared.Answer.the-variants.{Kept, Full, NoChild, Clashes}
+use Rattle.types.specs.declared.Answer.the-variants.{Kept, Malformed, Full, NoChild, Clashes}
 use Rattle.nodes.specs.declared.arrow.Arrow.{Arrow}
 use Rattle.types.proofs.Rows.{row-fitting, row-needs-live, row-few-entries}
 use Rattle.types.proofs.Stood.{Stood, stood, offer-fits, offer-clashes}
@@ -66,12 +66,16 @@ module _ {most : ℕ} {s : State} (o : Opened most s) where
       let long = numbers-long in
       ap (λ (l : List ℕ). getD l i 0) (o .written) ∙ List·getD-append (o .numbers) (replicate (7 * most - length (o .numbers)) 0) 0 i (omega arith)
 
+  -- a word's n is over 31
+  pub offer-over-31 : (n : Node) → (Proper n → ⊥) → Called most s o (Offer n) Malformed s
+  offer-over-31 n over = record { after = o; answered = over-31 over; same-rows = refl }
+
   -- no row is left
-  pub offer-full : (n : Node) → length (s .nodes) ≤ 7 * s .kept → Called most s o (Offer n) Full s
-  offer-full n h =
+  pub offer-full : (n : Node) → Proper n → length (s .nodes) ≤ 7 * s .kept → Called most s o (Offer n) Full s
+  offer-full n proper h =
       let rows = o .limits .node-rows in
       let count = o .counted in
-      record { after = o; answered = full (omega arith); same-rows = refl }
+      record { after = o; answered = full proper (omega arith); same-rows = refl }
 
   module _ (room : 7 * s .kept < length (s .nodes)) where
     kept-few : length (o .nodes) < most
@@ -85,9 +89,9 @@ module _ {most : ℕ} {s : State} (o : Opened most s) where
         let rows = o .limits .node-rows in
         omega arith
 
-    pub offer-no-child : (n : Node) → (Below (s .kept) n → ⊥) → Called most s o (Offer n) NoChild s
-    offer-no-child n missing =
-        record { after = o; answered = no-child kept-few (λ b. missing (subst (λ (k : ℕ). Below k n) (o .counted) b)); same-rows = refl }
+    pub offer-no-child : (n : Node) → Proper n → (Below (s .kept) n → ⊥) → Called most s o (Offer n) NoChild s
+    offer-no-child n proper missing =
+        record { after = o; answered = no-child proper kept-few (λ b. missing (subst (λ (k : ℕ). Below k n) (o .counted) b)); same-rows = refl }
 
     module _ (n : Node) (proper : Proper n) (below : Below (s .kept) n) where
       abbrev child : ℕ → ℕ
@@ -190,7 +194,7 @@ module _ {most : ℕ} {s : State} (o : Opened most s) where
           (record {
             after = o;
             answered = subst (λ (x : ℕ). Answered most (o .nodes) (Offer n) (Clashes x) (o .nodes)) (sym named)
-                (refuses kept-few below-nodes (offer-clashes opened-stood n proper below-nodes room-for-one met));
+                (refuses proper kept-few below-nodes (offer-clashes opened-stood n proper below-nodes room-for-one met));
             same-rows = refl;
           })
 
@@ -272,6 +276,6 @@ module _ {most : ℕ} {s : State} (o : Opened most s) where
               answered =
                   subst (λ (x : ℕ). Answered most (o .nodes) (Offer n) (Kept x joins) (o .nodes ++ (n ∷ []))) (o .counted)
                   (subst (λ (x : ℕ). Answered most (o .nodes) (Offer n) (Kept (length (o .nodes)) x) (o .nodes ++ (n ∷ []))) (sym sum)
-                  (keeps kept-few below-nodes (offer-fits opened-stood n proper below-nodes room-for-one met)));
+                  (keeps proper kept-few below-nodes (offer-fits opened-stood n proper below-nodes room-for-one met)));
               same-rows = stood-then .limit-is;
             }

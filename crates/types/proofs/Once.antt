@@ -10,7 +10,7 @@ use Rattle.classes.proofs.Counting.{counted-once}
 use Rattle.nodes.specs.Layout.{says}
 use Rattle.types.specs.Answers.{before, offered, needs, rules-to, Offered, Answered}
 use Rattle.types.specs.Answers.Offered.{fits, clashes}
-use Rattle.types.specs.Answers.Answered.{malformed, full, no-child, keeps, refuses, takes-back, too-far}
+use Rattle.types.specs.Answers.Answered.{malformed, over-31, full, no-child, keeps, refuses, takes-back, too-far}
 use Rattle.types.specs.States.{State, Opened}
 use Rattle.types.specs.Calls.{Called}
 use Rattle.types.specs.Runs.{Runs}
@@ -50,22 +50,31 @@ not-both a b = let e = offered-once a b in let z : _≡_ {A = ℕ} 0 1 = cc in o
 
 pub answered-once : {most : ℕ} {kept ks ks′ : List Node} {rec : Record} {r r′ : Answer} → Answered most kept rec r ks → Answered most kept rec r′ ks′ → (r ≡ r′) × (ks ≡ ks′)
 answered-once malformed malformed = (refl, refl)
-answered-once (full f) (full f′) = (refl, refl)
-answered-once (full f) (no-child l b) = absurd (omega arith)
-answered-once (full f) (keeps l b o) = absurd (omega arith)
-answered-once (full f) (refuses l b o) = absurd (omega arith)
-answered-once (no-child l b) (full f) = absurd (omega arith)
-answered-once (no-child l b) (no-child l′ b′) = (refl, refl)
-answered-once (no-child l b) (keeps l′ b′ o) = absurd (b b′)
-answered-once (no-child l b) (refuses l′ b′ o) = absurd (b b′)
-answered-once (keeps l b o) (full f) = absurd (omega arith)
-answered-once (keeps l b o) (no-child l′ b′) = absurd (b′ b)
-answered-once (keeps l b o) (keeps l′ b′ o′) = (offered-once o o′, refl)
-answered-once (keeps l b o) (refuses l′ b′ o′) = absurd (not-both o o′)
-answered-once (refuses l b o) (full f) = absurd (omega arith)
-answered-once (refuses l b o) (no-child l′ b′) = absurd (b′ b)
-answered-once (refuses l b o) (keeps l′ b′ o′) = absurd (not-both o′ o)
-answered-once (refuses l b o) (refuses l′ b′ o′) = (offered-once o o′, refl)
+answered-once (over-31 u) (over-31 u′) = (refl, refl)
+answered-once (over-31 u) (full p′ f′) = absurd (u p′)
+answered-once (over-31 u) (no-child p′ l′ b′) = absurd (u p′)
+answered-once (over-31 u) (keeps p′ l′ b′ o′) = absurd (u p′)
+answered-once (over-31 u) (refuses p′ l′ b′ o′) = absurd (u p′)
+answered-once (full p f) (over-31 u′) = absurd (u′ p)
+answered-once (full p f) (full p′ f′) = (refl, refl)
+answered-once (full p f) (no-child p′ l′ b′) = absurd (omega arith)
+answered-once (full p f) (keeps p′ l′ b′ o′) = absurd (omega arith)
+answered-once (full p f) (refuses p′ l′ b′ o′) = absurd (omega arith)
+answered-once (no-child p l b) (over-31 u′) = absurd (u′ p)
+answered-once (no-child p l b) (full p′ f′) = absurd (omega arith)
+answered-once (no-child p l b) (no-child p′ l′ b′) = (refl, refl)
+answered-once (no-child p l b) (keeps p′ l′ b′ o′) = absurd (b b′)
+answered-once (no-child p l b) (refuses p′ l′ b′ o′) = absurd (b b′)
+answered-once (keeps p l b o) (over-31 u′) = absurd (u′ p)
+answered-once (keeps p l b o) (full p′ f′) = absurd (omega arith)
+answered-once (keeps p l b o) (no-child p′ l′ b′) = absurd (b′ b)
+answered-once (keeps p l b o) (keeps p′ l′ b′ o′) = (offered-once o o′, refl)
+answered-once (keeps p l b o) (refuses p′ l′ b′ o′) = absurd (not-both o o′)
+answered-once (refuses p l b o) (over-31 u′) = absurd (u′ p)
+answered-once (refuses p l b o) (full p′ f′) = absurd (omega arith)
+answered-once (refuses p l b o) (no-child p′ l′ b′) = absurd (b′ b)
+answered-once (refuses p l b o) (keeps p′ l′ b′ o′) = absurd (not-both o′ o)
+answered-once (refuses p l b o) (refuses p′ l′ b′ o′) = (offered-once o o′, refl)
 answered-once (takes-back h) (takes-back h′) = (refl, refl)
 answered-once (takes-back h) (too-far f) = absurd (omega arith)
 answered-once (too-far f) (takes-back h) = absurd (omega arith)

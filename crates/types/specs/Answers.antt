@@ -5,7 +5,7 @@ use Prim.Native.Nat.{ℕ, suc, _+_, _<_, _≤_}
 use lib.ListN.{length, take, getD}
 use Rattle.classes.specs.Forced.{Rule, Clash}
 use Rattle.classes.specs.Count.{Classes}
-use Rattle.nodes.specs.Layout.{Numbered, says, Program, children, row-of, grown, built, rules-of}
+use Rattle.nodes.specs.Layout.{Numbered, says, Program, Proper, children, row-of, grown, built, rules-of}
 use Rattle.nodes.specs.declared.Node.{Node}
 use Rattle.nodes.specs.declared.Record.{Record}
 use Rattle.nodes.specs.declared.Record.the-variants.{Offer, TakeBack, Malformed as Misshapen}
@@ -68,10 +68,12 @@ module _ (kept : List Node) (n : Node) where
 -- The checks of an offer in the order 1, 3, 2, 4
 pub data Answered (limit : ℕ) (kept : List Node) : Record → Answer → List Node → Type 0 where
   malformed : Answered limit kept Misshapen Malformed kept
-  full : {n : Node} → limit ≤ length kept → Answered limit kept (Offer n) Full kept
-  no-child : {n : Node} → length kept < limit → (Below (length kept) n → ⊥) → Answered limit kept (Offer n) NoChild kept
-  keeps : {n : Node} {joins : ℕ} → length kept < limit → Below (length kept) n → Offered kept n (Kept (length kept) joins) →
+  over-31 : {n : Node} → (Proper n → ⊥) → Answered limit kept (Offer n) Malformed kept
+  full : {n : Node} → Proper n → limit ≤ length kept → Answered limit kept (Offer n) Full kept
+  no-child : {n : Node} → Proper n → length kept < limit → (Below (length kept) n → ⊥) → Answered limit kept (Offer n) NoChild kept
+  keeps : {n : Node} {joins : ℕ} → Proper n → length kept < limit → Below (length kept) n → Offered kept n (Kept (length kept) joins) →
       Answered limit kept (Offer n) (Kept (length kept) joins) (kept ++ (n ∷ []))
-  refuses : {n : Node} {rule : ℕ} → length kept < limit → Below (length kept) n → Offered kept n (Clashes rule) → Answered limit kept (Offer n) (Clashes rule) kept
+  refuses : {n : Node} {rule : ℕ} → Proper n → length kept < limit → Below (length kept) n → Offered kept n (Clashes rule) →
+      Answered limit kept (Offer n) (Clashes rule) kept
   takes-back : {k : ℕ} → k ≤ length kept → Answered limit kept (TakeBack k) (TakenBack k) (take k kept)
   too-far : {k : ℕ} → length kept < k → Answered limit kept (TakeBack k) (TooFar (length kept)) kept

@@ -7,7 +7,7 @@ use super::state::Live;
 use nodes::Node;
 ghost use mathlib.Core.Path.{_≡_};
 ghost use mathlib.Core.List.{[]};
-ghost use Rattle.nodes.specs.Layout.{Proper};
+ghost use Rattle.nodes.specs.Layout.{word-of};
 ghost use Rattle.types.specs.States.{Opened};
 ghost use Rattle.types.specs.Values.{state-of};
 ghost use Rattle.types.specs.Calls.{Called};
@@ -22,6 +22,8 @@ const TRAIL: usize = 24675;
 const PENDING: usize = 16450;
 
 const NODES: usize = 7168;
+
+const LARGEST_WORD: u16 = 31;
 
 pub struct State {
     pub parent: [u16; 8225],
@@ -74,11 +76,41 @@ pub fn open() -> State
     }
 }
 
-// Offers a node.
+// A word's n; 0 for any other node.
+fn word_of(n: Node) -> u16
+    ensures { λ r. ⌜ r ≡ word-of n ⌝ }
+{
+    match n {
+        Node::Iden => 0,
+        Node::Unit => 0,
+        Node::InjL(_) => 0,
+        Node::InjR(_) => 0,
+        Node::Take(_) => 0,
+        Node::Drop(_) => 0,
+        Node::Comp(_, _) => 0,
+        Node::Case(_, _) => 0,
+        Node::AssertL(_) => 0,
+        Node::AssertR(_) => 0,
+        Node::Pair(_, _) => 0,
+        Node::Disconnect(_, _) => 0,
+        Node::DisconnectHole(_) => 0,
+        Node::Witness => 0,
+        Node::Fail => 0,
+        Node::Word(n) => n,
+    }
+}
+
+// Offers a node: the checks in the order 1, 3, 2, 4.
 pub fn offer(s: State, n: Node) -> Put
-    requires { ⌜ Opened 1024 (state-of s) × Proper n ⌝ }
+    requires { ⌜ Opened 1024 (state-of s) ⌝ }
     ensures { λ r. ⌜ ((o : Opened 1024 (state-of s)) → Called 1024 (state-of s) o (Offer n) (r .answer) (state-of (r .state))) ⌝ }
 {
+    if LARGEST_WORD < word_of(n) {
+        return Put {
+            answer: Answer::Malformed,
+            state: s,
+        };
+    }
     let mut parent = s.parent;
     let mut rank = s.rank;
     let mut shape = s.shape;

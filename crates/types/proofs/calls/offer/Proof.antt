@@ -1,9 +1,19 @@
--- `types::calls::offer` meets its contract, which is the core's on the state's own arrays.
+-- `types::calls::offer` meets its contract, which is the core's on the state's own arrays. A word's n is looked at first.
+use mathlib.Core.Path.{_≡_}
+use Prim.Native.Nat.{_≤_}
 use native.Mathlib.Omega.{arith}
+use Rattle.nodes.specs.Layout.{Proper}
 use Rattle.types.proofs.Begun.{pending-wide}
+use Rattle.types.proofs.Offering.{offer-over-31}
 use borrow.Author.Needs.{needs}
 use Rattle.types.proofs.calls.offer.Statement.{statement}
 use Rattle.types.proofs.calls.offer.Tie as tie
+
+word-of-requires : tie.Need-word-of-requires
+word-of-requires c κs = search needs
+
+returns : tie.Need-returns
+returns c = λ o. offer-over-31 o (c .before .before .args .n) (λ small. omega (arith, small, c .if1 .taken, c .before .word-of .ensures))
 
 slice-aggregate-offer : tie.Need-slice-aggregate-offer
 slice-aggregate-offer c = search needs
@@ -32,16 +42,24 @@ slice-aggregate-offer-8 c = search needs
 slice-aggregate-offer-9 : tie.Need-slice-aggregate-offer-9
 slice-aggregate-offer-9 c = search needs
 
-offer-requires : tie.Need-offer-requires
-offer-requires c κs = let st = c .before .before .before .before .before .before .before .before .before .before .before .before .before .before .before .before .before .before in ((1024, st .pre .0), (st .pre .1, pending-wide (st .args .s .parent) 8225 16450 (slice-aggregate-offer (c .before .before .before .before .before .before .before .before)) (omega arith)))
+-- past the check
+proper : (c : tie.Else1) → Proper (c .before .before .args .n)
+proper c = omega (arith, c .if1 .left, c .before .word-of .ensures)
 
-returns : tie.Need-returns
-returns c = λ o. c .before .before .before .before .before .before .before .before .before .before .offer .ensures 1024 o
+offer-requires : tie.Need-offer-requires
+offer-requires c κs =
+    let past = c .before .before .before .before .before .before .before .before .before .before .before .before .before .before .before .before .before .before in
+    ((1024, past .before .before .pre), (proper past, pending-wide (past .before .before .args .s .parent) 8225 16450 (slice-aggregate-offer (c .before .before .before .before .before .before .before .before)) (omega arith)))
+
+returns-2 : tie.Need-returns-2
+returns-2 c = λ o. c .before .before .before .before .before .before .before .before .before .before .offer .ensures 1024 o
 
 pub offer-spec : {M : Type 1} → statement M
 offer-spec =
     tie.close
     (tie.spec
+    word-of-requires
+    returns
     slice-aggregate-offer
     slice-aggregate-offer-2
     slice-aggregate-offer-3
@@ -52,4 +70,4 @@ offer-spec =
     slice-aggregate-offer-8
     slice-aggregate-offer-9
     offer-requires
-    returns)
+    returns-2)

@@ -110,13 +110,13 @@ mul-if1 : tie.Need-mul-if1
 mul-if1 c = search needs
 
 returns : tie.Need-returns
-returns c = λ most o. offer-full o _ (c .if1 .taken)
+returns c = λ most o. offer-full o _ (c .before .before .before .before .before .before .before .before .before .before .pre .1 .0) (c .if1 .taken)
 
 children-below-requires : tie.Need-children-below-requires
 children-below-requires c κs = search needs
 
 returns-2 : tie.Need-returns-2
-returns-2 c = λ most o. offer-no-child o (c .before .before .if1 .left) _ (c .before .children-below .ensures .1 (not-true (c .before .children-below .result) (c .if2 .taken)))
+returns-2 c = λ most o. offer-no-child o (c .before .before .if1 .left) _ (start (c .before .before) .pre .1 .0) (c .before .children-below .ensures .1 (not-true (c .before .children-below .result) (c .if2 .taken)))
 
 first-child-requires : tie.Need-first-child-requires
 first-child-requires c κs = search needs
