@@ -3,12 +3,11 @@ use mathlib.Core.Path.{_≡_, refl}
 use mathlib.Core.List.{List, [], _∷_}
 use Prim.Native.Nat.{ℕ, _+_, _*_, _^_, _<_, _≤_}
 use native.Mathlib.Omega.{arith}
-use lib.ListN.{length, getD, replicate, length-replicate}
+use lib.ListN.{length, replicate, length-replicate}
 use Rattle.classes.specs.Forced.{equal}
-use Rattle.classes.specs.Table.{Table, table, mark, root}
+use Rattle.classes.specs.Table.{Table, table, mark}
 use Rattle.classes.specs.Made.{Within, Made}
 use Rattle.classes.specs.Forest.{Forest}
-use Rattle.classes.specs.Turning.{Rooted}
 use Rattle.classes.specs.Merging.{Verdict, Merges}
 use Rattle.classes.specs.Promises.{AddedBy, entries-then, Run, Joining, made-links, Marked, Undoing}
 use Rattle.classes.specs.Promises.AddedBy.{entry, full}
@@ -19,8 +18,6 @@ use Rattle.classes.specs.declared.context.Added.the-variants.{Entry}
 use Rattle.classes.specs.declared.context.Joined.{Joined}
 use Rattle.classes.specs.declared.context.Joined.the-variants.{Done, Clash as Clashed}
 use Rattle.classes.proofs.Closing.{made-good}
-use Rattle.classes.proofs.Climbing.{climb-live}
-use Rattle.classes.proofs.Roots.{rising, settled, root-live}
 use Rattle.classes.proofs.GivenBack.{run-forest}
 use Rattle.table.specs.Kept.{Leads}
 use Rattle.table.proofs.Marks.{leads-here}
@@ -31,21 +28,6 @@ made-forest m = made-good m .forest
 -- room for the pairs still to join, beside an empty table
 pub fresh-room : (n m : ℕ) → 2 * n ≤ m → 2 * length (replicate {A = ℕ} n 0) ≤ length (replicate {A = ℕ} m 0)
 fresh-room n m h = simp length-replicate h
-
--- the way up from an entry of a made table
-pub made-rooted : {t : Table} → Made t → (a : ℕ) → a < t .entries → Rooted (t .parent) a
-made-rooted m a h =
-    let f = made-forest m in
-    record { within = λ n. omega (arith, climb-live (rising f) n a h, f .room); ends = settled f a h }
-
--- what an entry's class shows is read from rows that are there
-pub made-shown : {t : Table} → Made t → (a : ℕ) → a < t .entries → (root t a < length (t .shape))
-    × ((getD (t .shape) (root t a) 0 < length (t .kind)) × (getD (t .shape) (root t a) 0 < length (t .left)) × (getD (t .shape) (root t a) 0 < length (t .right)))
-made-shown {t} m a h =
-    let f = made-forest m in
-    let r : root t a < t .entries = root-live f a h in
-    let s : getD (t .shape) (root t a) 0 < t .entries = f .shapes (root t a) r in
-    (omega (arith, f .room, f .shape-rows), (omega (arith, f .room, f .kind-rows), omega (arith, f .room, f .left-rows), omega (arith, f .room, f .right-rows)))
 
 -- adding an entry leads to a made table, and its number fits
 pub added-leads : {t u : Table} {b : Bound} {answer : Added} → Made t → Within (t .entries) b → AddedBy t b answer u → Leads t u

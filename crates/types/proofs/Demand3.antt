@@ -1,4 +1,4 @@
--- Demand 3, for offers, refusals and take-backs: after any run of records, every later answer is that of a fresh state offered only the nodes still kept.
+-- Demand 3: after any run of records, every later answer and every later listing is that of a fresh state offered only the nodes still kept.
 use mathlib.Core.Path.{_≡_, sym, subst}
 use mathlib.Core.Logic.{by-cases}
 use mathlib.Core.List.{List, [], _∷_, _++_, map-append}
@@ -8,7 +8,8 @@ use native.Mathlib.Omega.{arith}
 use lib.ListN.{length, take, length-append}
 use lib.Seq.{take-nil, take-all, take-append-le}
 use Rattle.types.specs.Answers.{Answered}
-use Rattle.types.specs.Answers.Answered.{malformed, over-31, full, no-child, keeps, refuses, takes-back, too-far}
+use Rattle.types.specs.Answers.Answered.{malformed, over-31, full, no-child, keeps, refuses, takes-back, too-far, closes, endless}
+use Rattle.types.specs.Closings.{Lists}
 use Rattle.types.specs.Runs.{Runs, offers}
 use Rattle.types.specs.Runs.Runs.{ends, goes}
 use Rattle.nodes.specs.declared.Node.{Node}
@@ -42,35 +43,42 @@ answered-again a (keeps p l b o) = one-more a (keeps p l b o)
 answered-again a (refuses p l b o) = a
 answered-again a (takes-back {k = k} h) = first-again a k
 answered-again a (too-far f) = a
+answered-again a (closes c) = a
+answered-again a (endless h e lowest) = a
 
-run-again : {most : ℕ} {kept last : List Node} {rs : List Record} {answers : List Answer} → Again most kept → Runs most kept rs answers last → Again most last
+run-again : {most : ℕ} {kept last : List Node} {rs : List Record} {answers : List Answer} {listings : List (List ℕ)} →
+    Again most kept → Runs most kept rs answers listings last → Again most last
 run-again a ends = a
-run-again a (goes o r) = run-again (answered-again a o) r
+run-again a (goes o l r) = run-again (answered-again a o) r
 
 -- one record more, at the end of a run
-then-one : {most : ℕ} {kept then last : List Node} {rs : List Record} {answers : List Answer} {rec : Record} {answer : Answer} →
-    Runs most kept rs answers then → Answered most then rec answer last → Runs most kept (rs ++ (rec ∷ [])) (answers ++ (answer ∷ [])) last
-then-one ends o = goes o ends
-then-one (goes p r) o = goes p (then-one r o)
+then-one : {most : ℕ} {kept then last : List Node} {rs : List Record} {answers : List Answer} {listings : List (List ℕ)} {rec : Record} {answer : Answer} {listing : List ℕ} →
+    Runs most kept rs answers listings then → Answered most then rec answer last → Lists then rec listing →
+    Runs most kept (rs ++ (rec ∷ [])) (answers ++ (answer ∷ [])) (listings ++ (listing ∷ [])) last
+then-one ends o l = goes o l ends
+then-one (goes p k r) o l = goes p k (then-one r o l)
 
 -- so such nodes, offered in order to a fresh state, are kept one after the other
-offered-again : {most : ℕ} {ks : List Node} → Again most ks → (again : List Answer) × Runs most [] (offers ks) again ks
-offered-again none = ([], ends)
+offered-again : {most : ℕ} {ks : List Node} → Again most ks → (again : List Answer) × (listings : List (List ℕ)) × Runs most [] (offers ks) again listings ks
+offered-again none = ([], [], ends)
 offered-again (one-more {ks = ks} {joins = joins} a o) =
-    let (before, r) = offered-again a in
-    (before ++ (Kept (length ks) joins ∷ []), rw map-append (then-one r o))
+    let (before, listings, r) = offered-again a in
+    (before ++ (Kept (length ks) joins ∷ []), listings ++ ([] ∷ []), rw map-append (then-one r o Lists.offers))
 
 -- a fresh state offered only the nodes still kept, in their order, keeps them all
-pub kept-nodes-are-kept-again : {most : ℕ} {rs : List Record} {answers : List Answer} {kept : List Node} → Runs most [] rs answers kept →
-    (again : List Answer) × Runs most [] (offers kept) again kept
+pub kept-nodes-are-kept-again : {most : ℕ} {rs : List Record} {answers : List Answer} {listings : List (List ℕ)} {kept : List Node} →
+    Runs most [] rs answers listings kept →
+    (again : List Answer) × (listings : List (List ℕ)) × Runs most [] (offers kept) again listings kept
 kept-nodes-are-kept-again r = offered-again (run-again Again.none r)
 
 -- and from there on no answer differs: two runs of the same records, one going on from the first run and one from the fresh state, have the same answers and
--- keep the same nodes
-pub later-answers-are-a-fresh-states : {most : ℕ} {rs later : List Record} {answers : List Answer} {kept : List Node} → Runs most [] rs answers kept →
-    {again : List Answer} {kept′ : List Node} → Runs most [] (offers kept) again kept′ →
-    {as₁ as₂ : List Answer} {k₁ k₂ : List Node} → Runs most kept later as₁ k₁ → Runs most kept′ later as₂ k₂ → (as₁ ≡ as₂) × (k₁ ≡ k₂)
-later-answers-are-a-fresh-states {most} {later = later} {kept = kept} r {kept′ = kept′} f {as₂ = as₂} {k₂ = k₂} a b =
+-- the same listings, and keep the same nodes
+pub later-answers-are-a-fresh-states : {most : ℕ} {rs later : List Record} {answers : List Answer} {listings : List (List ℕ)} {kept : List Node} →
+    Runs most [] rs answers listings kept →
+    {again : List Answer} {listings′ : List (List ℕ)} {kept′ : List Node} → Runs most [] (offers kept) again listings′ kept′ →
+    {as₁ as₂ : List Answer} {ls₁ ls₂ : List (List ℕ)} {k₁ k₂ : List Node} →
+    Runs most kept later as₁ ls₁ k₁ → Runs most kept′ later as₂ ls₂ k₂ → (as₁ ≡ as₂) × (ls₁ ≡ ls₂) × (k₁ ≡ k₂)
+later-answers-are-a-fresh-states {most} {later = later} {kept = kept} r {kept′ = kept′} f {as₂ = as₂} {ls₂ = ls₂} {k₂ = k₂} a b =
     let again = kept-nodes-are-kept-again r in
-    let same-kept : kept ≡ kept′ = runs-once (again .1) f .1 in
-    runs-once a (subst (λ nodes. Runs most nodes later as₂ k₂) (sym same-kept) b)
+    let same-kept : kept ≡ kept′ = runs-once (again .2) f .2 in
+    runs-once a (subst (λ nodes. Runs most nodes later as₂ ls₂ k₂) (sym same-kept) b)

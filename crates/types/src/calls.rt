@@ -7,11 +7,13 @@ use super::state::Live;
 use nodes::Node;
 ghost use mathlib.Core.Path.{_≡_};
 ghost use mathlib.Core.List.{[]};
+ghost use Prim.Native.Nat.{_≤_};
+ghost use lib.ListN.{length, set};
 ghost use Rattle.nodes.specs.Layout.{word-of};
 ghost use Rattle.types.specs.States.{Opened};
 ghost use Rattle.types.specs.Values.{state-of};
-ghost use Rattle.types.specs.Calls.{Called};
-ghost use Rattle.nodes.specs.declared.Record.the-variants.{Offer, TakeBack};
+ghost use Rattle.types.specs.Calls.{Called, Handed};
+ghost use Rattle.nodes.specs.declared.Record.the-variants.{Offer, TakeBack, Close};
 
 // The rows of the entries' tables, of the trail (three numbers for each link), of the pairs still to join (two for each entry),
 // and of the nodes' table (seven for each node): 33 + 8 × 1,024 entries, 1,024 nodes.
@@ -22,6 +24,11 @@ const TRAIL: usize = 24675;
 const PENDING: usize = 16450;
 
 const NODES: usize = 7168;
+
+// Four numbers of working memory for each entry, and a listing of the longest list: 4 + 3 × 8,225 + 2 × 1,024 numbers.
+const WORK: usize = 32900;
+
+const LISTING: usize = 26727;
 
 const LARGEST_WORD: u16 = 31;
 
@@ -40,6 +47,13 @@ pub struct State {
 // An answer and the state after it.
 pub struct Put {
     pub answer: Answer,
+    pub state: State,
+}
+
+// A closing's answer, its listing with 0 past the end, and the state, which is the one that was given.
+pub struct Listed {
+    pub answer: Answer,
+    pub listing: [u16; 26727],
     pub state: State,
 }
 
@@ -193,5 +207,55 @@ pub fn take_back(s: State, to: u16) -> Put
             nodes,
             live,
         },
+    }
+}
+
+// The listing where there are no types, over zeros: 0, 0, 4, 4.
+fn no_listing(listing: &mut [u16])
+    requires { ⌜ 4 ≤ length (now listing) ⌝ }
+    ensures { λ _. ⌜ now (listing .exit) ≡ set (set (now (listing .entry)) 2 4) 3 4 ⌝ }
+{
+    listing[2] = 4;
+    listing[3] = 4;
+}
+
+// Closes, and hands the listing out.
+pub fn close(s: State) -> Listed
+    requires { ⌜ Opened 1024 (state-of s) ⌝ }
+    ensures { λ r. ⌜ ((o : Opened 1024 (state-of s)) → Called 1024 (state-of s) o Close (r .answer) (state-of (r .state)) × Handed 26727 (o .nodes) (r .listing)) ⌝ }
+{
+    let parent = s.parent;
+    let shape = s.shape;
+    let kind = s.kind;
+    let left = s.left;
+    let right = s.right;
+    let nodes = s.nodes;
+    let live = s.live;
+    let mut work = [0u16; WORK];
+    let mut listing = [0u16; LISTING];
+    let answer = state::close(
+        &parent,
+        &shape,
+        &kind,
+        &left,
+        &right,
+        &nodes,
+        &mut work,
+        &mut listing,
+        live,
+    );
+    if let Answer::Endless(_) = answer {
+        let mut listing = [0u16; LISTING];
+        no_listing(&mut listing);
+        return Listed {
+            answer,
+            listing,
+            state: s,
+        };
+    }
+    Listed {
+        answer,
+        listing,
+        state: s,
     }
 }

@@ -11,6 +11,8 @@ use classes::context;
 use classes::context::Added;
 use classes::context::Joined;
 use classes::undo;
+use closing::Closing;
+use closing::listing;
 use nodes::Node;
 use nodes::arrow;
 use nodes::arrow::Adds;
@@ -32,6 +34,7 @@ ghost use Rattle.types.specs.Answers.{Below};
 ghost use Rattle.types.specs.States.{state, entered, kind-number, first-field, second-field, row-numbers, Opened};
 ghost use Rattle.types.specs.Applying.{row-written, rows-cleared, Enterable, Meetable, Meeting, met-links, Applicable, Applying, applied-entries, applied-links};
 ghost use Rattle.types.specs.Calls.{Called};
+ghost use Rattle.types.specs.Calls.{Closing as Closes};
 ghost use Rattle.nodes.specs.declared.Record.the-variants.{Offer, TakeBack};
 
 // Numbers in a node's row, and where they stand in it.
@@ -531,6 +534,41 @@ pub fn take_back(
             links,
             kept: to,
         },
+    }
+}
+
+// Closes: the listing is written into `listed`, and no table changes. Working memory: four numbers for each entry.
+pub fn close(
+    parent: &[u16],
+    shape: &[u16],
+    kind: &[u16],
+    left: &[u16],
+    right: &[u16],
+    nodes: &[u16],
+    work: &mut [u16],
+    listed: &mut [u16],
+    live: Live,
+) -> Answer
+    requires { ⌜ ((most : ℕ) × (rank trail : List ℕ) × Opened most (state (table (now parent) rank (now shape) (now kind) (now left) (now right) trail (live .entries) (live .links)) (now nodes) (live .kept))) ⌝ }
+    requires { ⌜ (4 + 3 * live .entries < 2 ^ 16) × (4 * live .entries ≤ length (now work)) × (4 + 3 * live .entries + 2 * live .kept ≤ length (now listed)) ⌝ }
+    ensures { λ r. ⌜ ((most : ℕ) (rank trail : List ℕ) (o : Opened most (state (table (now (parent .entry)) rank (now (shape .entry)) (now (kind .entry)) (now (left .entry)) (now (right .entry)) trail (live .entries) (live .links)) (now (nodes .entry)) (live .kept))) →
+        Closes most (o .nodes) (now (listed .entry)) r (now (listed .exit))) ⌝ }
+{
+    let kept = live.kept;
+    match listing::close(
+        parent,
+        shape,
+        kind,
+        left,
+        right,
+        nodes,
+        work,
+        listed,
+        live.entries,
+        kept,
+    ) {
+        Closing::Types(types) => Answer::Closed(kept, types),
+        Closing::Endless(i) => Answer::Endless(i),
     }
 }
 

@@ -1,5 +1,8 @@
 pub mod Respects
+pub mod ClosedOnce
 pub mod Solving
+pub mod Finiteness
+pub mod FromTable
 pub mod Covered
-pub mod Apart
 pub mod Listed
+pub mod Few

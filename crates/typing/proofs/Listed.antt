@@ -3,11 +3,11 @@ use mathlib.Core.Path.{_≡_, refl, sym, _∙_, ap, subst}
 use mathlib.Core.Logic.{by-cases, ite, if-pos, if-neg}
 use mathlib.Core.List.{List, [], _∷_, _++_, List·Memᴰ}
 use mathlib.Core.List.List·Memᴰ.{List·Memᴰ·head, List·Memᴰ·tail}
-use Prim.Native.Nat.{ℕ, suc, _+_, _<_}
+use Prim.Native.Nat.{ℕ, suc, _+_, _*_, _<_}
 use native.Mathlib.Omega.{arith}
-use lib.ListN.{length, getD}
+use lib.ListN.{length, getD, length-append}
 use Rattle.typing.specs.Types.{Ty, Ty-discrete}
-use Rattle.typing.specs.Listing.{place-of, with-type, walked, triple}
+use Rattle.typing.specs.Listing.{place-of, with-type, walked, TypeArrow, types-of, triples, pairs, listing}
 
 -- a type that stands is not added again
 pub stands-already : (ts : List Ty) (t : Ty) → List·Memᴰ t ts → with-type ts t ≡ ts
@@ -125,3 +125,20 @@ walked-whole ts (Ty.sum l r) w =
 walked-whole ts (Ty.product l r) w =
     with-whole (walked (walked ts l) r) (Ty.product l r) (walked-whole (walked ts l) r (walked-whole ts l w))
     (walked-others (walked ts l) r l (walked-itself ts l), walked-itself (walked ts l) r)
+
+-- a listing is four numbers, three for each type and two for each node
+pub triples-long : (ts us : List Ty) → length (triples ts us) ≡ 3 * length us
+triples-long ts [] = refl
+triples-long ts (Ty.one ∷ us) = omega (arith, triples-long ts us)
+triples-long ts (Ty.sum l r ∷ us) = omega (arith, triples-long ts us)
+triples-long ts (Ty.product l r ∷ us) = omega (arith, triples-long ts us)
+
+pairs-long : (ts : List Ty) (arrows : List TypeArrow) → length (pairs ts arrows) ≡ 2 * length arrows
+pairs-long ts [] = refl
+pairs-long ts (a ∷ rest) = omega (arith, pairs-long ts rest)
+
+pub listing-long : (arrows : List TypeArrow) → length (listing arrows) ≡ 4 + 3 * length (types-of [] arrows) + 2 * length arrows
+unfolding listing
+listing-long arrows =
+    let ts = types-of [] arrows in
+    omega (arith, length-append (triples ts ts) (pairs ts arrows), triples-long ts ts, pairs-long ts arrows)

@@ -33,11 +33,17 @@ formed o c (Product l r) = Open.product (o l) (o r)
 unit-is-not-free : Unit ≡ Free → ⊥
 unit-is-not-free e = let z : _≡_ {A = ℕ} 0 1 = cc in absurd (omega arith)
 
-sum-is-not-free : {l r : ℕ} → Sum l r ≡ Free → ⊥
+pub sum-is-not-free : {l r : ℕ} → Sum l r ≡ Free → ⊥
 sum-is-not-free e = let z : _≡_ {A = ℕ} 0 1 = cc in absurd (omega arith)
 
-product-is-not-free : {l r : ℕ} → Product l r ≡ Free → ⊥
+pub product-is-not-free : {l r : ℕ} → Product l r ≡ Free → ⊥
 product-is-not-free e = let z : _≡_ {A = ℕ} 0 1 = cc in absurd (omega arith)
+
+-- where nothing clashes, entries of two kinds are not equal by force
+pub unlike : {bounds : List Bound} {rules : List Rule} → (Clash bounds rules → ⊥) → {a b : ℕ} {c d : Bound} →
+    Forced bounds rules a b → bound bounds a ≡ c → bound bounds b ≡ d → Differ c d → ⊥
+unlike {bounds} sound {a} {b} {c} f e g h =
+    sound (record { one = a; other = b; forced = f; kinds = subst (λ (x : Bound). Differ x (bound bounds b)) (sym e) (subst (λ (x : Bound). Differ c x) (sym g) h) })
 
 module _ {bounds : List Bound} {rules : List Rule} (s : Solved bounds rules) where
   -- the open type of an entry, down to k levels
@@ -86,8 +92,7 @@ module _ {bounds : List Bound} {rules : List Rule} (s : Solved bounds rules) whe
       deep-enough (suc (s .height a)) k a (omega arith) (omega arith) ∙ one-class-one-type k a b f ∙ deep-enough k (suc (s .height b)) b (omega arith) (omega arith)
 
   clashing : (a : ℕ) (b c : Bound) → bound bounds a ≡ b → bound bounds (s .shape a) ≡ c → Differ b c → ⊥
-  clashing a b c e g d =
-      s .sound (record { one = a; other = s .shape a; forced = s .of-class a; kinds = subst (λ (x : Bound). Differ x (bound bounds (s .shape a))) (sym e) (subst (λ (x : Bound). Differ b x) (sym g) d) })
+  clashing a b c e g d = unlike (s .sound) (s .of-class a) e g d
 
   -- the bound that the class of a shows is of the kind of a's own bound, with equal parts
   pub formed-as-given : (a : ℕ) (b c : Bound) → bound bounds a ≡ b → bound bounds (s .shape a) ≡ c →
@@ -160,30 +165,3 @@ module _ {bounds : List Bound} {rules : List Rule} (s : Solved bounds rules) whe
         satisfies = every-choice-satisfies (λ x. Ty.one);
         plain = λ a u. ap (chosen (λ x. Ty.one)) (unfolds a ∙ ap (formed open-type (s .shape a)) (u (s .shape a) (s .of-class a)));
       }
-
-  -- what stayed free is unit in every typing that closes
-  free-is-unit : {v : ℕ → Ty} → Closes bounds rules v → (a : ℕ) → bound bounds (s .shape a) ≡ Free → v (s .shape a) ≡ Ty.one
-  free-is-unit t a e = t .plain (s .shape a) (λ b f. s .alone a e b (Forced.chain (s .of-class a) f))
-
-  plain-as : {v : ℕ → Ty} → Closes bounds rules v → (o : ℕ → Open) (a : ℕ) (b : Bound) → bound bounds (s .shape a) ≡ b →
-      ((x : ℕ) → Part bounds rules a x → chosen v (o x) ≡ chosen (λ y. Ty.one) (o x)) →
-      chosen v (formed o (s .shape a) b) ≡ chosen (λ y. Ty.one) (formed o (s .shape a) b)
-  plain-as t o a Free e each = free-is-unit t a e
-  plain-as t o a Unit e each = refl
-  plain-as t o a (Sum l r) e each =
-      let left = each l (Part.sum-left (s .of-class a) e) in
-      let right = each r (Part.sum-right (s .of-class a) e) in
-      cc
-  plain-as t o a (Product l r) e each =
-      let left = each l (Part.product-left (s .of-class a) e) in
-      let right = each r (Part.product-right (s .of-class a) e) in
-      cc
-
-  plain-to : {v : ℕ → Ty} → Closes bounds rules v → (k a : ℕ) → s .height a < k → chosen v (open-to k a) ≡ chosen (λ y. Ty.one) (open-to k a)
-  plain-to t ℕ.zero a p = absurd (omega (arith, p))
-  plain-to t (ℕ.suc k) a p =
-      plain-as t (open-to k) a (bound bounds (s .shape a)) refl (λ x part. plain-to t k x (omega (arith, s .below a x part, p)))
-
-  -- no second typing closes
-  pub closes-once : {v : ℕ → Ty} → Closes bounds rules v → (a : ℕ) → v a ≡ printed a
-  closes-once t a = chosen-to (t .satisfies) (suc (s .height a)) a ∙ plain-to t (suc (s .height a)) a (omega arith)

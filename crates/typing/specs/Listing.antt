@@ -46,7 +46,7 @@ pairs ts [] = []
 pairs ts (a ∷ rest) = place-of ts (a .source) ∷ place-of ts (a .target) ∷ pairs ts rest
 
 -- nodes n, types t, offset of types, offset of arrows, the triples, the pairs
-pub listing : List TypeArrow → List ℕ
+unfoldable pub listing : List TypeArrow → List ℕ
 listing arrows =
     let ts = types-of [] arrows in
     length arrows ∷ length ts ∷ 4 ∷ (4 + 3 * length ts) ∷ (triples ts ts ++ pairs ts arrows)

@@ -1,5 +1,5 @@
 -- `table::steps::show` meets its contract.
-use Rattle.table.proofs.Classes.{made-rooted, made-shown}
+use Rattle.classes.proofs.Premises.{made-rooted, root-shaped, shape-given}
 use borrow.Author.Needs.{needs}
 use Rattle.table.proofs.steps.show.Statement.{statement}
 use Rattle.table.proofs.steps.show.Tie as tie
@@ -16,7 +16,7 @@ root-requires c κs = made-rooted (c .before .before .before .before .before .be
 shown-requires : tie.Need-shown-requires
 shown-requires c κs =
     let m = c .before .before .before .before .before .before .before .before .pre .1 .1 in
-    (made-rooted m _ (c .before .if1 .left), made-shown m _ (c .before .if1 .left))
+    (made-rooted m _ (c .before .if1 .left), (root-shaped m _ (c .before .if1 .left), shape-given m _ (c .before .if1 .left)))
 
 class-requires : tie.Need-class-requires
 class-requires c κs = search needs

@@ -1,0 +1,11 @@
+pub mod Chains
+pub mod Steps
+pub mod Cycles
+pub mod Marking
+pub mod Interned
+pub mod Splitting
+pub mod Walks
+pub mod Visits
+pub mod Beginning
+pub mod Arrows
+pub mod Listings
