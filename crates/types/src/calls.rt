@@ -245,11 +245,11 @@ pub fn close(s: State) -> Listed
         live,
     );
     if let Answer::Endless(_) = answer {
-        let mut listing = [0u16; LISTING];
-        no_listing(&mut listing);
+        let mut none = [0u16; LISTING];
+        no_listing(&mut none);
         return Listed {
             answer,
-            listing,
+            listing: none,
             state: s,
         };
     }

@@ -1,0 +1,19 @@
+// Lists of records put to the record calls of `types`, each list on a fresh state, to see what closings answer and list. The records
+// are in script.rt. Once `rt check closings` has proved it, it is target/bin/closings.
+//
+// A record may ask for anything, so nothing about the lists has to be proved.
+
+mod ask;
+mod say;
+mod script;
+
+use types::calls;
+
+fn main() {
+    let mut list: u16 = 0;
+    while list < script::LISTS {
+        say::title(list);
+        ask::run(calls::open(), script::first(list), script::end(list));
+        list += 1;
+    }
+}
