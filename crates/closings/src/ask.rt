@@ -5,6 +5,7 @@ use super::script;
 use super::script::Order;
 use nodes::Record;
 use nodes::records;
+use types::Answer;
 use types::calls;
 use types::calls::State;
 ghost use Rattle.types.specs.States.{Opened};
@@ -59,7 +60,12 @@ fn put(s: State, asked: Record, printed: bool) -> State
             }
             closed.state
         }
-        Record::Malformed => s,
+        Record::Malformed => {
+            if printed {
+                say::answered(Answer::Malformed);
+            }
+            s
+        }
     }
 }
 

@@ -114,6 +114,16 @@ pub(super) fn title(list: u16) {
         18 => text(
             b"\n# A thousand clients, by turns sound, clashing and endless, each taken back; then a list\n",
         ),
-        _ => text(b"\n# The same list on a fresh state\n"),
+        19 => text(b"\n# The same list on a fresh state\n"),
+        20 => text(b"\n# word 0; comp 0 0, which clashes\n"),
+        21 => text(b"\n# unit; unit; disconnect 0 1, which clashes\n"),
+        22 => text(b"\n# word 8; disconnect 0 with a hole, which clashes\n"),
+        23 => text(b"\n# word 0; assertl 0; assertr 0, which clash\n"),
+        24 => text(b"\n# word 0; take 0; word 1; take 2; case 1 3, which clashes\n"),
+        25 => text(b"\n# word 0; take 0; pair 0 1, which clashes\n"),
+        26 => text(b"\n# word 31; word 32, which is malformed\n"),
+        _ => text(
+            b"\n# iden, forty times take of the last node, pair 0 40: a cycle through forty products\n",
+        ),
     }
 }

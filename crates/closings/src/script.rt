@@ -8,7 +8,7 @@ pub struct Order {
     pub printed: bool,
 }
 
-pub const LISTS: u16 = 20;
+pub const LISTS: u16 = 28;
 
 // A list's records have the numbers from `first` up to `end`: up to ten for the short lists.
 pub(super) fn first(list: u16) -> u16 {
@@ -20,7 +20,9 @@ pub(super) fn first(list: u16) -> u16 {
         16 => 4000,
         17 => 6000,
         18 => 8000,
-        _ => 13000,
+        19 => 13000,
+        20..=26 => 10 * list,
+        _ => 1100,
     }
 }
 
@@ -45,7 +47,15 @@ pub(super) fn end(list: u16) -> u16 {
         16 => 5025,
         17 => 7025,
         18 => 13005,
-        _ => 13005,
+        19 => 13005,
+        20 => 203,
+        21 => 214,
+        22 => 223,
+        23 => 234,
+        24 => 246,
+        25 => 254,
+        26 => 263,
+        _ => 1143,
     }
 }
 
@@ -101,6 +111,10 @@ fn many(i: u16) -> Order {
 
 fn doubled(i: u16) -> Order {
     loud(11, i, i)
+}
+
+fn taken(i: u16) -> Order {
+    loud(5, i, 0)
 }
 
 fn wrapped(i: u16) -> Order {
@@ -175,9 +189,48 @@ pub(super) fn order_at(at: u16) -> Order {
         144 => loud(7, 1, 0),
         145 => close(),
 
+        200 => loud(16, 0, 0),
+        201 => loud(7, 0, 0),
+        202 => close(),
+
+        210 => loud(2, 0, 0),
+        211 => loud(2, 0, 0),
+        212 => loud(12, 0, 1),
+        213 => close(),
+
+        220 => loud(16, 8, 0),
+        221 => loud(13, 0, 0),
+        222 => close(),
+
+        230 => loud(16, 0, 0),
+        231 => loud(9, 0, 0),
+        232 => loud(10, 0, 0),
+        233 => close(),
+
+        240 => loud(16, 0, 0),
+        241 => loud(5, 0, 0),
+        242 => loud(16, 1, 0),
+        243 => loud(5, 2, 0),
+        244 => loud(8, 1, 3),
+        245 => close(),
+
+        250 => loud(16, 0, 0),
+        251 => loud(5, 0, 0),
+        252 => loud(11, 0, 1),
+        253 => close(),
+
+        260 => loud(16, 31, 0),
+        261 => loud(16, 32, 0),
+        262 => close(),
+
         1000 => loud(14, 0, 0),
         1001..=1040 => doubled(std::num::wrapping_sub_u16(at, 1001)),
         1041 => close(),
+
+        1100 => loud(1, 0, 0),
+        1101..=1140 => taken(std::num::wrapping_sub_u16(at, 1101)),
+        1141 => loud(11, 0, 40),
+        1142 => close(),
 
         2000 => loud(2, 0, 0),
         2001..=3023 => wrapped(std::num::wrapping_sub_u16(at, 2001)),

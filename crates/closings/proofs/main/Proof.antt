@@ -6,10 +6,10 @@ use Rattle.closings.proofs.main.Statement.{statement}
 use Rattle.closings.proofs.main.Tie as tie
 
 abbrev Inv-loop : tie.InvT-loop
-Inv-loop list₀ list = list ≤ 20
+Inv-loop list₀ list = list ≤ 28
 
 abbrev μ-loop : tie.MeasureT-loop
-μ-loop list₀ list = 20 - list
+μ-loop list₀ list = 28 - list
 
 loop-holds : tie.Need-loop-holds Inv-loop μ-loop
 loop-holds c = omega arith

@@ -40,6 +40,9 @@ listing-requires c κs = search needs
 enum-told-2 : tie.Need-enum-told-2
 enum-told-2 c = search needs
 
+answered-requires-4 : tie.Need-answered-requires-4
+answered-requires-4 c κs = search needs
+
 returns : tie.Need-returns
 returns c = c .before .before .offer .ensures (c .before .before .before .before .before .before .pre) .after
 
@@ -51,6 +54,9 @@ returns-3 c = c .before .before .before .close .ensures (c .before .before .befo
 
 returns-4 : tie.Need-returns-4
 returns-4 c = search needs
+
+returns-5 : tie.Need-returns-5
+returns-5 c = search needs
 
 pub put-spec : {M : Type 1} → statement M
 put-spec =
@@ -68,7 +74,9 @@ put-spec =
     slice-aggregate-listing
     listing-requires
     enum-told-2
+    answered-requires-4
     returns
     returns-2
     returns-3
-    returns-4)
+    returns-4
+    returns-5)
