@@ -1,13 +1,13 @@
 -- A visit from its start to its end: what a step may ask, how the walk begins, and what it comes to.
 use mathlib.Core.Path.{_≡_, refl, sym, _∙_, ap, subst}
 use mathlib.Core.List.{List, [], _∷_}
-use mathlib.Core.List.{List·Memᴰ·not-nil, List·Memᴰ·eq-of-singleton}
-use Prim.Native.Nat.{ℕ, suc, _+_, _-_, _*_, _≤_, _<_}
+use mathlib.Core.List.{List·Memᴰ·not-nil}
+use Prim.Native.Nat.{ℕ, suc, _+_, _-_, _*_, _<_}
 use native.Mathlib.Omega.{arith}
 use lib.ListN.{length, getD}
 use Rattle.classes.specs.Forced.{Rule, Forced}
 use Rattle.classes.specs.Table.{Table, root, given, shown, shown-at, bounds}
-use Rattle.classes.specs.Made.{Made, Stands}
+use Rattle.classes.specs.Made.{Stands}
 use Rattle.classes.specs.declared.Bound.{Bound}
 use Rattle.classes.specs.declared.Bound.the-variants.{Free, Unit, Sum, Product}
 use Rattle.classes.proofs.Closing.{made-good}
@@ -19,10 +19,10 @@ use Rattle.typing.specs.Endless.{Endless}
 use Rattle.typing.specs.Listing.{walked}
 use Rattle.typing.proofs.Finiteness.{finite-equal}
 use Rattle.closing.specs.Walking.{mark-at, path-in, opened, seen, in-classes, PartsRooted, PartsBelow, Seeable, Steppable, Stepped}
-use Rattle.closing.specs.Visiting.{Types, Path, unseen, Marks, Finishes, Settled, VisitedBy}
+use Rattle.closing.specs.Visiting.{Path, unseen, Finishes, Settled, VisitedBy}
 use Rattle.closing.specs.Visiting.Finishes.{done, more}
 use Rattle.closing.specs.declared.walk.Turn.{Turn}
-use Rattle.closing.specs.declared.walk.Visited.the-variants.{Cycle, Done}
+use Rattle.closing.specs.declared.walk.Visited.the-variants.{Done}
 use Rattle.closing.proofs.Cycles.{endless-equal}
 use Rattle.closing.proofs.Interned.{types-alike}
 use Rattle.closing.proofs.Marking.{unseen-some, marks-opened}

@@ -1,5 +1,4 @@
 -- The rule texts, byte for byte: document 01, "Types, entries and nodes". A `×` is the two bytes 195, 151.
-use mathlib.Core.Path.{_≡_}
 use mathlib.Core.List.{List, [], _∷_, _++_}
 use Prim.Native.Nat.{ℕ, _≤_}
 use lib.ListN.{length, getD, drop}

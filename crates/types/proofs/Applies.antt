@@ -1,7 +1,7 @@
 -- What applying a row leans on: after its entries the rules can be joined, and after a clash the mark before it is one of the run.
-use mathlib.Core.Path.{_≡_, refl, sym, ap, _∙_, subst}
+use mathlib.Core.Path.{_≡_, refl, sym, subst}
 use mathlib.Core.List.{List, [], _∷_}
-use Prim.Native.Nat.{ℕ, _+_, _≤_, _<_}
+use Prim.Native.Nat.{ℕ, _+_, _≤_}
 use native.Mathlib.Numerals.{add-one}
 use native.Mathlib.Omega.{arith}
 use lib.ListN.{length, length-set}
@@ -12,7 +12,7 @@ use Rattle.classes.specs.Promises.{Run, Marked}
 use Rattle.classes.specs.Promises.Run.{here}
 use Rattle.classes.specs.declared.Bound.{Bound}
 use Rattle.classes.proofs.Judging.{made-stands}
-use Rattle.nodes.specs.Layout.{Row, Numbered}
+use Rattle.nodes.specs.Layout.{Row}
 use Rattle.types.specs.States.{entered, Stops}
 use Rattle.types.specs.Applying.{Fitting, Named, Enterable, Meetable, Applicable}
 use Rattle.types.specs.Applying.Fitting.{one-more}

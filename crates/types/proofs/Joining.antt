@@ -1,13 +1,13 @@
 -- The loop that joins a row's rules: what is left to join from here leads to what was to be joined from the start.
 use mathlib.Core.Path.{_≡_, refl, sym, ap, _∙_, subst}
-use mathlib.Core.List.{List, [], _∷_, _++_, List·Memᴰ}
+use mathlib.Core.List.{List, [], _∷_, List·Memᴰ}
 use mathlib.Core.List.List·Memᴰ.{List·Memᴰ·head, List·Memᴰ·tail}
 use Prim.Native.Nat.{ℕ, suc, _+_, _-_, _*_, _^_, _≤_, _<_, min}
 use native.Mathlib.Numerals.{add-one}
-use native.Mathlib.Nat.{zero-add, suc-add, add-suc}
+use native.Mathlib.Nat.{zero-add}
 use native.Mathlib.Omega.{arith}
-use lib.ListN.{length, getD, take, drop, length-take}
-use lib.Seq.{drop-cons, drop-length, getD-take, take-all}
+use lib.ListN.{length, getD, drop, length-take}
+use lib.Seq.{drop-cons, drop-length, getD-take}
 use Rattle.classes.specs.Forced.{equal}
 use Rattle.classes.specs.Table.{Table, table, limit}
 use Rattle.classes.specs.Merging.{Verdict, Merges}

@@ -6,14 +6,14 @@ use mathlib.Core.Logic.{_⊎_, ⊎-elim}
 use mathlib.Core.Logic._⊎_.{inl, inr}
 use Prim.Native.Nat.{ℕ, suc, _+_, _-_, _*_, _^_, _≤_, _<_}
 use native.Mathlib.Omega.{arith}
-use lib.ListN.{length, getD, take, drop, replicate, length-append, length-replicate, List·getD-append, List·getD-eq-default, replicate-append-replicate}
-use lib.Seq.{take-at, drop-append-add, getD-append-add}
-use Rattle.classes.specs.Table.{Table, table, limit}
+use lib.ListN.{length, getD, drop, replicate, length-append, length-replicate, List·getD-append, List·getD-eq-default, replicate-append-replicate}
+use lib.Seq.{take-at, drop-append-add}
+use Rattle.classes.specs.Table.{Table, limit}
 use Rattle.classes.proofs.Rows.{replicate-blank}
-use Rattle.nodes.specs.Layout.{Row, Proper, says, arrow, adds, arrow-of, children, row-of, grown, built}
+use Rattle.nodes.specs.Layout.{Row, Proper, says, arrow, adds, arrow-of, children, row-of, grown}
 use Rattle.types.specs.Answers.{Below, Answered}
 use Rattle.types.specs.Answers.Answered.{over-31, full, no-child, keeps, refuses}
-use Rattle.types.specs.States.{State, state, entered, Meets, Stops, Standing, Opened, Limits, row-numbers}
+use Rattle.types.specs.States.{State, state, entered, Meets, Stops, Standing, Opened, row-numbers}
 use Rattle.types.specs.States.Standing.{kept}
 use Rattle.types.specs.Applying.{row-written, Fitting, Named, Applicable}
 use Rattle.types.specs.Calls.{Called}

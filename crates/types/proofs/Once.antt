@@ -1,9 +1,9 @@
 -- No second answer: what a record is answered and lists, the nodes then kept, and the state.
 use mathlib.Core.Path.{_≡_, refl, sym, ap, _∙_, subst}
-use mathlib.Core.List.{List, [], _∷_}
-use Prim.Native.Nat.{ℕ, suc, _<_}
+use mathlib.Core.List.{List, [], _∷_, _++_}
+use Prim.Native.Nat.{ℕ, suc, _-_, _<_}
 use native.Mathlib.Omega.{arith}
-use lib.ListN.{length, getD}
+use lib.ListN.{length, getD, drop, replicate}
 use Rattle.classes.specs.Forced.{Clash}
 use Rattle.classes.specs.Count.{Classes}
 use Rattle.classes.proofs.Counting.{counted-once}
@@ -16,7 +16,7 @@ use Rattle.types.specs.Answers.Offered.{fits, clashes}
 use Rattle.types.specs.Answers.Answered.{malformed, over-31, full, no-child, keeps, refuses, takes-back, too-far, closes, endless}
 use Rattle.types.specs.Closings.{typed, ClosedWith, Lists}
 use Rattle.types.specs.States.{State, Opened}
-use Rattle.types.specs.Calls.{Called}
+use Rattle.types.specs.Calls.{Called, Closing, Handed}
 use Rattle.types.specs.Runs.{Runs}
 use Rattle.types.specs.Runs.Runs.{ends, goes}
 use Rattle.nodes.specs.declared.Node.{Node}
@@ -127,3 +127,13 @@ pub called-once : {most : ℕ} {s s₁ s₂ : State} {o : Opened most s} {rec : 
 called-once a b =
     let (same-answer, same-nodes) = answered-once (a .answered) (b .answered) in
     (same-answer, same-nodes-same-state (a .after) (b .after) same-nodes (a .same-rows ∙ sym (b .same-rows)))
+
+-- nor a second listing in the array that a closing hands out, nor in the numbers that it was lent
+pub handed-once : {size : ℕ} {kept : List Node} {numbers numbers′ : List ℕ} → Handed size kept numbers → Handed size kept numbers′ → numbers ≡ numbers′
+handed-once {size} a b = a .are ∙ ap (λ (l : List ℕ). l ++ replicate (size - length l) 0) (lists-once (a .lists) (b .lists)) ∙ sym (b .are)
+
+pub closing-once : {most : ℕ} {kept : List Node} {lent after after′ : List ℕ} {r r′ : Answer} → Closing most kept lent r after → Closing most kept lent r′ after′ →
+    (r ≡ r′) × (((i : ℕ) → r ≡ Endless i → ⊥) → after ≡ after′)
+closing-once {lent = lent} a b =
+    let same = answered-once (a .answered) (b .answered) .0 in
+    (same, λ ne. a .written ne ∙ ap (λ (l : List ℕ). l ++ drop (length l) lent) (lists-once (a .lists) (b .lists)) ∙ sym (b .written (λ i e. ne i (same ∙ e))))

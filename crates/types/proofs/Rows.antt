@@ -56,7 +56,6 @@ fitting (b ∷ bs) h = Fitting.one-more (within b (h .0)) (fitting bs (h .1))
 -- what is known of each row; s and t are the children's arrows
 record RowKnown (n : Node) (s t : Arrow) (e : ℕ) : Type 0 where
   few-entries : length (adds n s t e .entries) ≤ 8
-  few-needs : length (adds n s t e .needs) ≤ 4
   below : Proper n → 33 ≤ e → ArrowBelow e s → ArrowBelow e t → RowBelow e (adds n s t e)
 
 row-known : (n : Node) (s t : Arrow) (e : ℕ) → RowKnown n s t e
@@ -111,9 +110,6 @@ module _ (p : Program) (n : Node) (r : Ranged p) (proper : Proper n) (below : Be
       (q .rule .one < length (p .bounds) + length (row-of p n .entries)) × (q .rule .other < length (p .bounds) + length (row-of p n .entries))
   row-needs-live = needs-below (in-range .needs)
 
-  pub row-gives-live : (row-of p n .gives .source < length (p .bounds) + length (row-of p n .entries)) × (row-of p n .gives .target < length (p .bounds) + length (row-of p n .entries))
-  row-gives-live = in-range .gives
-
   -- the arrows that were there name entries still, and the new one is the row's
   arrows-grown : (i : ℕ) → i < length (grown p n .arrows) → ArrowBelow (length (grown p n .bounds)) (arrow-of (grown p n .arrows) i)
   arrows-grown i h = rw (length-append (p .bounds) (row-of p n .entries)) (by-cases (decLt i (length (p .arrows)))
@@ -130,6 +126,3 @@ module _ (p : Program) (n : Node) (r : Ranged p) (proper : Proper n) (below : Be
 -- how long a row is
 pub row-few-entries : (p : Program) (n : Node) → length (row-of p n .entries) ≤ 8
 row-few-entries p n = row-known n _ _ _ .few-entries
-
-pub row-few-needs : (p : Program) (n : Node) → length (row-of p n .needs) ≤ 4
-row-few-needs p n = row-known n _ _ _ .few-needs

@@ -4,7 +4,7 @@ use mathlib.Core.List.{List, [], _∷_, _++_}
 use Prim.Native.Nat.{ℕ, suc, _+_, _-_, _*_, _^_, _≤_, _<_}
 use lib.ListN.{length, replicate}
 use Rattle.classes.specs.Table.{Table, limit, fresh, added}
-use Rattle.classes.specs.Merging.{Verdict, Merges}
+use Rattle.classes.specs.Merging.{Merges}
 use Rattle.classes.specs.Merging.Verdict.{fits, clash}
 use Rattle.classes.specs.declared.Bound.{Bound}
 use Rattle.nodes.specs.Layout.{Numbered, Program, Proper, standing, opened, row-of, grown}

@@ -19,8 +19,9 @@ use Rattle.classes.proofs.Roots.{root-live, settled}
 use Rattle.classes.specs.declared.Bound.the-variants.{Free, Sum, Product}
 use Rattle.typing.specs.Types.{Ty, Satisfies, Unbound, Closes}
 use Rattle.typing.specs.Finite.{Finite}
-use Rattle.typing.specs.General.{Open, Principal}
+use Rattle.typing.specs.General.{Open, chosen, Principal}
 use Rattle.typing.proofs.Respects.{size, part-is-smaller}
+use Rattle.typing.proofs.ClosedOnce.{closes-one}
 use Rattle.typing.proofs.Solving.{Solved, open-type, most-general, printed, printed-closes}
 
 sum-within : {n l r : ℕ} → Within n (Sum l r) → (l < n) × (r < n)
@@ -126,3 +127,9 @@ module _ {t : Table} {rules : List Rule} (s : Stands t rules) where
   -- and a typing that closes
   pub satisfied-has-closing : {v : ℕ → Ty} → Satisfies (bounds t) rules v → (w : ℕ → Ty) × Closes (bounds t) rules w
   satisfied-has-closing sat = (printed (solved sat), printed-closes (solved sat))
+
+  -- the typing that closes is a most general one, with unit for what stayed free
+  pub closing-is-most-general : {v : ℕ → Ty} → Closes (bounds t) rules v → (o : ℕ → Open) × Principal (bounds t) rules o × ((a : ℕ) → v a ≡ chosen (λ x. Ty.one) (o a))
+  closing-is-most-general c =
+      let s = solved (c .satisfies) in
+      (open-type s, most-general s, closes-one c (printed-closes s))

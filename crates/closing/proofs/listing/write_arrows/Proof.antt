@@ -1,6 +1,6 @@
 -- `closing::listing::write_arrows` meets its contract. The invariant: the arrows of the first `i` nodes are written.
 use mathlib.Core.Path.{_≡_, refl, subst}
-use Prim.Native.Nat.{ℕ, _+_, _-_, _*_, _^_, _≤_, _<_}
+use Prim.Native.Nat.{ℕ, _+_, _-_, _^_, _≤_, _<_}
 use native.Mathlib.Omega.{arith}
 use lib.ListN.{length, length-set}
 use Rattle.closing.specs.Writing.{ArrowsWritten}

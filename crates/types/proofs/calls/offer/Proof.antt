@@ -1,6 +1,4 @@
 -- `types::calls::offer` meets its contract, which is the core's on the state's own arrays. A word's n is looked at first.
-use mathlib.Core.Path.{_≡_}
-use Prim.Native.Nat.{_≤_}
 use native.Mathlib.Omega.{arith}
 use Rattle.nodes.specs.Layout.{Proper}
 use Rattle.types.proofs.Begun.{pending-wide}

@@ -1,12 +1,10 @@
 -- `types::state::apply` meets its contract: entries, then rules, and after a clash an undo to the mark before.
-use mathlib.Core.Path.{_≡_, refl, sym, ap, _∙_, subst}
-use Prim.Native.Nat.{ℕ}
+use mathlib.Core.Path.{_≡_, refl, _∙_, subst}
 use Rattle.classes.specs.Table.{Table, table}
 use Rattle.types.specs.States.{entered}
 use Rattle.nodes.specs.Meant.{meant, meant-entries}
 use Rattle.types.specs.Applying.{Meeting, met-links}
 use Rattle.types.specs.declared.state.Met.{Met}
-use Rattle.types.specs.declared.state.Met.the-variants.{All, Clash}
 use Rattle.types.proofs.Applies.{meetable, clash-run, clash-marked}
 use borrow.Author.Needs.{needs}
 use Rattle.types.proofs.state.apply.Statement.{statement}

@@ -1,8 +1,8 @@
 -- `types::state::close` meets its contract.
-use mathlib.Core.Path.{_≡_, _∙_, subst}
+use mathlib.Core.Path.{_≡_, subst}
 use mathlib.Core.List.{List}
 use Prim.Native.Nat.{ℕ}
-use Rattle.classes.specs.Table.{Table, table}
+use Rattle.classes.specs.Table.{table}
 use Rattle.closing.specs.declared.Closing.{Closing as Found}
 use Rattle.types.specs.Calls.{Closing}
 use Rattle.types.specs.States.{State, state, Opened}

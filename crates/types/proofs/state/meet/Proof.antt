@@ -1,14 +1,13 @@
 -- `types::state::meet` meets its contract. The invariant: the rules left to join lead to what all of them lead to from the start.
-use mathlib.Core.Path.{_≡_, refl, sym, ap, _∙_, subst}
+use mathlib.Core.Path.{_≡_, refl, sym, _∙_}
 use mathlib.Core.List.{[], _∷_}
-use Prim.Native.Nat.{ℕ, _+_, _-_, _*_, _<_}
+use Prim.Native.Nat.{_+_, _-_, _<_}
 use native.Mathlib.Omega.{arith}
 use borrow.Author.Needs.{needs}
 use lib.ListN.{length, getD}
 use Rattle.classes.specs.Table.{Table, table}
 use Rattle.classes.specs.Promises.{verdict}
 use Rattle.classes.specs.declared.context.Joined.{Joined}
-use Rattle.classes.specs.declared.context.Joined.the-variants.{Done, Clash}
 use Rattle.classes.specs.Forced.{equal}
 use Rattle.classes.specs.Merging.{Merges}
 use Rattle.nodes.specs.Layout.{says}

@@ -1,11 +1,10 @@
 -- `types::state::offer` meets its contract: each way out is one of `Offering`'s.
-use mathlib.Core.Path.{_≡_, refl, sym, ap, _∙_, subst}
+use mathlib.Core.Path.{_≡_, refl, ap, _∙_, subst}
 use Prim.Native.Nat.{ℕ, _+_, _*_, _<_}
-use native.Mathlib.Omega.{arith}
 use borrow.Author.Tests.{not-true, not-false}
 use lib.ListN.{length, getD}
-use Rattle.classes.specs.Table.{Table, table, limit}
-use Rattle.nodes.specs.Layout.{Row, arrow, adds, children, row-of}
+use Rattle.classes.specs.Table.{Table, table}
+use Rattle.nodes.specs.Layout.{Row, arrow, row-of}
 use Rattle.nodes.specs.Meant.{meant}
 use Rattle.types.specs.Answers.{Below}
 use Rattle.types.specs.States.{State, state, row-numbers, Opened}
