@@ -1,5 +1,5 @@
 // Lists of records put to the record calls of `types`, each list on a fresh state, to see what closings answer and list. The records
-// are in script.rt. Once `rt check closings` has proved it, it is target/bin/closings.
+// are in script.rt. Once `rt check closed_lists` has proved it, it is target/bin/closed_lists.
 //
 // A record may ask for anything, so nothing about the lists has to be proved.
 

@@ -1,9 +1,9 @@
--- `closings::say::sum` has no promise but that it ends.
+-- `closed_lists::say::sum` has no promise but that it ends.
 use Prim.Native.Nat.{_-_}
 use lib.ListN.{length}
 use borrow.Author.Needs.{needs}
-use Rattle.closings.proofs.say.sum.Statement.{statement}
-use Rattle.closings.proofs.say.sum.Tie as tie
+use Rattle.closed_lists.proofs.say.sum.Statement.{statement}
+use Rattle.closed_lists.proofs.say.sum.Tie as tie
 
 abbrev Inv-loop : tie.InvT-loop
 Inv-loop listing sum₀ sums₀ i₀ sum sums i = Prim.Unit {0}

@@ -1,9 +1,9 @@
--- `closings::say::some` has no promise but that it ends.
+-- `closed_lists::say::some` has no promise but that it ends.
 use Prim.Native.Nat.{_-_}
 use lib.ListN.{length}
 use borrow.Author.Needs.{needs}
-use Rattle.closings.proofs.say.some.Statement.{statement}
-use Rattle.closings.proofs.say.some.Tie as tie
+use Rattle.closed_lists.proofs.say.some.Statement.{statement}
+use Rattle.closed_lists.proofs.say.some.Tie as tie
 
 abbrev Inv-loop : tie.InvT-loop
 Inv-loop listing end i₀ t4 i = Prim.Unit {0}

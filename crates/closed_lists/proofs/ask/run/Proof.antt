@@ -1,10 +1,10 @@
--- `closings::ask::run` ends, and asks of each call what it may. The invariant is the calls' premise.
+-- `closed_lists::ask::run` ends, and asks of each call what it may. The invariant is the calls' premise.
 use Prim.Native.Nat.{_-_}
 use Rattle.types.specs.States.{Opened}
 use Rattle.types.specs.Values.{state-of}
 use borrow.Author.Needs.{needs}
-use Rattle.closings.proofs.ask.run.Statement.{statement}
-use Rattle.closings.proofs.ask.run.Tie as tie
+use Rattle.closed_lists.proofs.ask.run.Statement.{statement}
+use Rattle.closed_lists.proofs.ask.run.Tie as tie
 
 abbrev Inv-loop : tie.InvT-loop
 Inv-loop first end s₀ at₀ s at = Opened 1024 (state-of s)

@@ -1,8 +1,8 @@
--- `closings::ask::put` keeps the premise of the calls.
+-- `closed_lists::ask::put` keeps the premise of the calls.
 
 use borrow.Author.Needs.{needs}
-use Rattle.closings.proofs.ask.put.Statement.{statement}
-use Rattle.closings.proofs.ask.put.Tie as tie
+use Rattle.closed_lists.proofs.ask.put.Statement.{statement}
+use Rattle.closed_lists.proofs.ask.put.Tie as tie
 
 enum-known-asked : tie.Need-enum-known-asked
 enum-known-asked c = search needs

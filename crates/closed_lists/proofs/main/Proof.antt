@@ -1,9 +1,9 @@
--- `closings::main` meets its contract. The measure of its loop is the number of lists that are left.
+-- `closed_lists::main` meets its contract. The measure of its loop is the number of lists that are left.
 use Prim.Native.Nat.{_-_, _≤_}
 use native.Mathlib.Omega.{arith}
 use borrow.Author.Needs.{needs}
-use Rattle.closings.proofs.main.Statement.{statement}
-use Rattle.closings.proofs.main.Tie as tie
+use Rattle.closed_lists.proofs.main.Statement.{statement}
+use Rattle.closed_lists.proofs.main.Tie as tie
 
 abbrev Inv-loop : tie.InvT-loop
 Inv-loop list₀ list = list ≤ 28
