@@ -3,13 +3,12 @@
 use super::say;
 use super::script;
 use super::script::Order;
+use calls::State;
 use nodes::Record;
 use nodes::records;
 use types::Answer;
-use types::calls;
-use types::calls::State;
 ghost use Rattle.types.specs.States.{Opened};
-ghost use Rattle.types.specs.Values.{state-of};
+ghost use Rattle.calls.specs.Values.{state-of};
 
 // What the eight bytes of an order ask for.
 fn read(order: Order) -> Record {

@@ -1,4 +1,4 @@
-// Lists of records put to the record calls of `types`, each list on a fresh state, to see what closings answer and list. The records
+// Lists of records put to the record calls (`calls`), each list on a fresh state, to see what closings answer and list. The records
 // are in script.rt. Once `rt check closed_lists` has proved it, it is target/bin/closed_lists.
 //
 // A record may ask for anything, so nothing about the lists has to be proved.
@@ -6,8 +6,6 @@
 mod ask;
 mod say;
 mod script;
-
-use types::calls;
 
 fn main() {
     let mut list: u16 = 0;

@@ -3,7 +3,7 @@ use mathlib.Core.Path.{_≡_, refl, sym, ap, _∙_, subst}
 use mathlib.Core.List.{List, [], _∷_, _++_}
 use Prim.Native.Nat.{ℕ, suc, _-_, _<_}
 use native.Mathlib.Omega.{arith}
-use lib.ListN.{length, getD, drop, replicate}
+use lib.ListN.{length, getD, drop}
 use Rattle.classes.specs.Forced.{Clash}
 use Rattle.classes.specs.Count.{Classes}
 use Rattle.classes.proofs.Counting.{counted-once}
@@ -16,7 +16,7 @@ use Rattle.types.specs.Answers.Offered.{fits, clashes}
 use Rattle.types.specs.Answers.Answered.{malformed, over-31, full, no-child, keeps, refuses, takes-back, too-far, closes, endless}
 use Rattle.types.specs.Closings.{typed, ClosedWith, Lists}
 use Rattle.types.specs.States.{State, Opened}
-use Rattle.types.specs.Calls.{Called, Closing, Handed}
+use Rattle.types.specs.Calls.{Called, Closing}
 use Rattle.types.specs.Runs.{Runs}
 use Rattle.types.specs.Runs.Runs.{ends, goes}
 use Rattle.nodes.specs.declared.Node.{Node}
@@ -128,10 +128,7 @@ called-once a b =
     let (same-answer, same-nodes) = answered-once (a .answered) (b .answered) in
     (same-answer, same-nodes-same-state (a .after) (b .after) same-nodes (a .same-rows ∙ sym (b .same-rows)))
 
--- nor a second listing in the array that a closing hands out, nor in the numbers that it was lent
-pub handed-once : {size : ℕ} {kept : List Node} {numbers numbers′ : List ℕ} → Handed size kept numbers → Handed size kept numbers′ → numbers ≡ numbers′
-handed-once {size} a b = a .are ∙ ap (λ (l : List ℕ). l ++ replicate (size - length l) 0) (lists-once (a .lists) (b .lists)) ∙ sym (b .are)
-
+-- nor a second listing in the numbers that a closing was lent
 pub closing-once : {most : ℕ} {kept : List Node} {lent after after′ : List ℕ} {r r′ : Answer} → Closing most kept lent r after → Closing most kept lent r′ after′ →
     (r ≡ r′) × (((i : ℕ) → r ≡ Endless i → ⊥) → after ≡ after′)
 closing-once {lent = lent} a b =

@@ -1,9 +1,8 @@
 // The upper crate: the state that offers and take-backs change. It sees of the class table only what the contracts of `classes`
 // promise, and of the combinators only the rows that `nodes` works out.
 //
-// state: the core on lent tables. calls: the record calls on a state by value.
+// state: the core on lent tables. The record calls on a state by value are the crate `calls`.
 
-pub mod calls;
 pub mod state;
 
 // What a record is answered. Document 01's three numbers for each case are `numbers` of specs/Answers.antt.

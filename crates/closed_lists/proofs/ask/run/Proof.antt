@@ -1,7 +1,7 @@
 -- `closed_lists::ask::run` ends, and asks of each call what it may. The invariant is the calls' premise.
 use Prim.Native.Nat.{_-_}
 use Rattle.types.specs.States.{Opened}
-use Rattle.types.specs.Values.{state-of}
+use Rattle.calls.specs.Values.{state-of}
 use borrow.Author.Needs.{needs}
 use Rattle.closed_lists.proofs.ask.run.Statement.{statement}
 use Rattle.closed_lists.proofs.ask.run.Tie as tie

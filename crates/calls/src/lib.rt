@@ -1,18 +1,19 @@
 // The record calls on a state by value: the tables as arrays of numbers with their live counts, for at most 1,024 nodes.
 // Each call lends the arrays to the core once and builds the state again. A job uses the core itself, which copies nothing.
 
-use super::Answer;
-use super::state;
-use super::state::Live;
 use nodes::Node;
+use types::Answer;
+use types::state;
+use types::state::Live;
 ghost use mathlib.Core.Path.{_≡_};
 ghost use mathlib.Core.List.{[]};
 ghost use Prim.Native.Nat.{_≤_};
 ghost use lib.ListN.{length, set};
 ghost use Rattle.nodes.specs.Layout.{word-of};
 ghost use Rattle.types.specs.States.{Opened};
-ghost use Rattle.types.specs.Values.{state-of};
-ghost use Rattle.types.specs.Calls.{Called, Handed};
+ghost use Rattle.calls.specs.Values.{state-of};
+ghost use Rattle.types.specs.Calls.{Called};
+ghost use Rattle.calls.specs.Handed.{Handed};
 ghost use Rattle.nodes.specs.declared.Record.the-variants.{Offer, TakeBack, Close};
 
 // The rows of the entries' tables, of the trail (three numbers for each link), of the pairs still to join (two for each entry),

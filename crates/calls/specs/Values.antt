@@ -1,8 +1,8 @@
 -- The state struct of the record calls, as the state that its arrays hold.
 use Rattle.classes.specs.Table.{table}
 use Rattle.types.specs.States.{state}
 use Rattle.types.specs.States
-use Rattle.types.specs.declared.calls.State.{State}
+use Rattle.calls.specs.declared.State.{State}
 
 abbrev pub state-of : State → States.State
 state-of s =

@@ -1,10 +1,10 @@
--- `types::calls::open` meets its contract, which is the core's on the state's own arrays.
+-- `calls::open` meets its contract, which is the core's on the state's own arrays.
 use Rattle.types.proofs.Begun.{opened-first}
 use mathlib.Core.Path.{refl}
 use native.Mathlib.Omega.{arith}
 use borrow.Author.Needs.{needs}
-use Rattle.types.proofs.calls.open.Statement.{statement}
-use Rattle.types.proofs.calls.open.Tie as tie
+use Rattle.calls.proofs.open.Statement.{statement}
+use Rattle.calls.proofs.open.Tie as tie
 
 slice-aggregate-open : tie.Need-slice-aggregate-open
 slice-aggregate-open c = search needs

@@ -1,11 +1,11 @@
--- `types::calls::offer` meets its contract, which is the core's on the state's own arrays. A word's n is looked at first.
+-- `calls::offer` meets its contract, which is the core's on the state's own arrays. A word's n is looked at first.
 use native.Mathlib.Omega.{arith}
 use Rattle.nodes.specs.Layout.{Proper}
 use Rattle.types.proofs.Begun.{pending-wide}
 use Rattle.types.proofs.Offering.{offer-over-31}
 use borrow.Author.Needs.{needs}
-use Rattle.types.proofs.calls.offer.Statement.{statement}
-use Rattle.types.proofs.calls.offer.Tie as tie
+use Rattle.calls.proofs.offer.Statement.{statement}
+use Rattle.calls.proofs.offer.Tie as tie
 
 word-of-requires : tie.Need-word-of-requires
 word-of-requires c κs = search needs

@@ -1,7 +1,7 @@
--- `types::calls::take_back` meets its contract, which is the core's on the state's own arrays.
+-- `calls::take_back` meets its contract, which is the core's on the state's own arrays.
 use borrow.Author.Needs.{needs}
-use Rattle.types.proofs.calls.take_back.Statement.{statement}
-use Rattle.types.proofs.calls.take_back.Tie as tie
+use Rattle.calls.proofs.take_back.Statement.{statement}
+use Rattle.calls.proofs.take_back.Tie as tie
 
 slice-aggregate-take-back : tie.Need-slice-aggregate-take-back
 slice-aggregate-take-back c = search needs

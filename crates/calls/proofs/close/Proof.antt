@@ -1,4 +1,4 @@
--- `types::calls::close` meets its contract, which is the core's on the state's own arrays; the listing begins as zeros.
+-- `calls::close` meets its contract, which is the core's on the state's own arrays; the listing begins as zeros.
 use mathlib.Core.Path.{_≡_, subst}
 use mathlib.Core.Logic.{⊎-elim}
 use mathlib.Core.List.{[], _∷_}
@@ -7,13 +7,14 @@ use native.Mathlib.Omega.{arith}
 use lib.ListN.{length-replicate}
 use types.Run.{OneOf}
 use denote.Enum.Declared.{tagOf}
 use Rattle.types.specs.declared.Answer.{Answer}
 use Rattle.types.specs.declared.Answer.the-variants.{Endless}
 use Rattle.types.proofs.Answer.{the-type}
-use Rattle.types.proofs.Handing.{array-room, closing-called, handed-types, handed-none}
+use Rattle.types.proofs.Handing.{closing-called}
+use Rattle.calls.proofs.Handing.{array-room, handed-types, handed-none}
 use borrow.Author.Needs.{needs}
-use Rattle.types.proofs.calls.close.Statement.{statement}
-use Rattle.types.proofs.calls.close.Tie as tie
+use Rattle.calls.proofs.close.Statement.{statement}
+use Rattle.calls.proofs.close.Tie as tie
 
 -- the arm that goes on is that of the other answers
 not-endless : {a : Answer} → OneOf (0 ∷ 1 ∷ 2 ∷ 3 ∷ 4 ∷ 5 ∷ 6 ∷ 8 ∷ []) (tagOf the-type a) → (i : ℕ) → a ≡ Endless i → ⊥
