@@ -55,7 +55,7 @@ module _ {s : State} (o : Opened 1024 s) where
   }
 
   endless-lists : {i : ℕ} {kept′ : List Node} → Answered 1024 (o .nodes) Close (Endless i) kept′ → Lists (o .nodes) Close no-listing
-  endless-lists (Answered.endless {i = i} h e lowest) = Lists.endless i e
+  endless-lists (Answered.endless {i = i} h e lowest) = Lists.endless i h e
 
   pub handed-none : {answer : Answer} {before after numbers : List ℕ} {i : ℕ} (size : ℕ) → 4 ≤ size → Closing 1024 (o .nodes) before answer after → answer ≡ Endless i →
       numbers ≡ set (set (replicate size 0) 2 4) 3 4 → Handed size (o .nodes) numbers
