@@ -3,6 +3,12 @@
 
 use nodes::Node;
 use types::Answer;
+use types::limits::ENTRIES;
+use types::limits::LISTING;
+use types::limits::NODES;
+use types::limits::PENDING;
+use types::limits::TRAIL;
+use types::limits::WORK;
 use types::state;
 use types::state::Live;
 ghost use mathlib.Core.Path.{_≡_};
@@ -15,21 +21,6 @@ ghost use Rattle.calls.specs.Values.{state-of};
 ghost use Rattle.types.specs.Calls.{Called};
 ghost use Rattle.calls.specs.Handed.{Handed};
 ghost use Rattle.nodes.specs.declared.Record.the-variants.{Offer, TakeBack, Close};
-
-// The rows of the entries' tables, of the trail (three numbers for each link), of the pairs still to join (two for each entry),
-// and of the nodes' table (seven for each node): 33 + 8 × 1,024 entries, 1,024 nodes.
-const ENTRIES: usize = 8225;
-
-const TRAIL: usize = 24675;
-
-const PENDING: usize = 16450;
-
-const NODES: usize = 7168;
-
-// Four numbers of working memory for each entry, and a listing of the longest list: 4 + 3 × 8,225 + 2 × 1,024 numbers.
-const WORK: usize = 32900;
-
-const LISTING: usize = 26727;
 
 const LARGEST_WORD: u16 = 31;
 

@@ -1,8 +1,9 @@
 // The upper crate: the state that offers and take-backs change. It sees of the class table only what the contracts of `classes`
 // promise, and of the combinators only the rows that `nodes` works out.
 //
-// state: the core on lent tables. The record calls on a state by value are the crate `calls`.
+// state: the core on lent tables. limits: how long they are for 1,024 nodes. The record calls on a state by value are the crate `calls`.
 
+pub mod limits;
 pub mod state;
 
 // What a record is answered. Document 01's three numbers for each case are `numbers` of specs/Answers.antt.

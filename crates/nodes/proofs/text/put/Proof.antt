@@ -1,21 +1,13 @@
 -- `nodes::text::put` meets its contract. The invariant: the first i bytes of the text, and then the buffer as it was. The measure is what is left of the text.
 use mathlib.Core.Path.{_≡_, refl}
-use mathlib.Core.List.{List, _++_}
-use Prim.Native.Nat.{ℕ, _+_, _-_, _<_, _≤_, zero-le}
-use native.Mathlib.Nat.{zero-add, le-antisymm}
-use native.Mathlib.Numerals.{add-one}
+use mathlib.Core.List.{_++_}
+use Prim.Native.Nat.{_-_, _≤_, zero-le}
+use native.Mathlib.Nat.{le-antisymm}
 use native.Mathlib.Omega.{arith}
-use lib.ListN.{length, getD, take, drop, set, length-set}
-use lib.Seq.{paste-suc, take-length}
+use lib.ListN.{length, take, drop, length-set}
+use Rattle.nodes.proofs.Copying.{copied-more, copied-whole}
 use Rattle.nodes.proofs.text.put.Statement.{statement}
 use Rattle.nodes.proofs.text.put.Tie as tie
-
-copied-more : (src out₀ : List ℕ) {out : List ℕ} (i : ℕ) → out ≡ take i src ++ drop i out₀ → i < length src → length src ≤ length out₀ →
-    set out i (getD src i 0) ≡ take (i + 1) src ++ drop (i + 1) out₀
-copied-more src out₀ i so-far more room = rw (so-far, add-one) (simp zero-add at (paste-suc out₀ 0 src i 0 (omega arith) more))
-
-copied-all : (src out₀ : List ℕ) {out : List ℕ} {i : ℕ} → out ≡ take i src ++ drop i out₀ → i ≡ length src → out ≡ src ++ drop (length src) out₀
-copied-all src out₀ so-far all = rw (so-far, all, take-length)
 
 abbrev Inv-loop : tie.InvT-loop
 Inv-loop src out₀ i₀ out i = (out ≡ take i src ++ drop i out₀) × (i ≤ length src) × (length out ≡ length out₀)
@@ -41,7 +33,7 @@ loop-less c = omega arith
 loop-again : tie.Need-loop-again Inv-loop μ-loop
 loop-again c =
     let begun = c .before .before in
-    (copied-more _ _ _ (begun .loop .inv .0) (c .before .loop-test .taken) (begun .before .pre), omega arith, simp length-set (begun .loop .inv .2))
+    (copied-more _ _ _ (begun .loop .inv .0) (c .before .loop-test .taken) (omega (arith, c .before .loop-test .taken, begun .before .pre)), omega arith, simp length-set (begun .loop .inv .2))
 
 same-length : tie.Need-same-length Inv-loop μ-loop
 same-length c = c .before .loop .inv .2
@@ -49,7 +41,7 @@ same-length c = c .before .loop .inv .2
 returns : tie.Need-returns Inv-loop μ-loop
 returns c =
     let all = le-antisymm (c .before .loop .inv .1) (c .loop-test .left) in
-    (all, copied-all _ _ (c .before .loop .inv .0) all)
+    (all, copied-whole _ _ (c .before .loop .inv .0) all)
 
 pub put-spec : {M : Type 1} → statement M
 put-spec =

@@ -1,0 +1,164 @@
+-- `jobs::run::put` meets its contract: what the core promises, by what the record asks.
+use Rattle.jobs.proofs.Putting.{offer-is-no-closing, take-back-is-no-closing, put-other, put-closing, put-malformed, closing-room}
+use borrow.Author.Needs.{needs}
+use Rattle.jobs.proofs.run.put.Statement.{statement}
+use Rattle.jobs.proofs.run.put.Tie as tie
+
+enum-known-asked : tie.Need-enum-known-asked
+enum-known-asked c = search needs
+
+offer-requires : tie.Need-offer-requires
+offer-requires c κs =
+    let start = c .before .before .before .before .before .before .before .before .before .before .before .before .before .before .before .before .before .before .before .before .before .before in
+    ((1024, start .pre .0), (start .pre .1 .0 _ (c .before .before .before .before .before .before .before .before .before .before .asked .given .1), start .pre .1 .1 .pairs))
+
+enum-known-asked-2 : tie.Need-enum-known-asked-2
+enum-known-asked-2 c = search needs
+
+take-back-requires : tie.Need-take-back-requires
+take-back-requires c κs = search needs
+
+enum-told : tie.Need-enum-told
+enum-told c = search needs
+
+close-requires : tie.Need-close-requires
+close-requires c κs =
+    let start = c .before .before .before .before .before .before .before .before .before .before .before .before .before .before .before .before .before .before .before .before in
+    ((1024, _, _, start .pre .0), closing-room (start .pre .0) (start .pre .1 .1))
+
+enum-told-2 : tie.Need-enum-told-2
+enum-told-2 c = search needs
+
+same-length : tie.Need-same-length
+same-length c = search needs
+
+same-length-2 : tie.Need-same-length-2
+same-length-2 c = search needs
+
+same-length-3 : tie.Need-same-length-3
+same-length-3 c = search needs
+
+same-length-4 : tie.Need-same-length-4
+same-length-4 c = search needs
+
+same-length-5 : tie.Need-same-length-5
+same-length-5 c = search needs
+
+same-length-6 : tie.Need-same-length-6
+same-length-6 c = search needs
+
+same-length-7 : tie.Need-same-length-7
+same-length-7 c = search needs
+
+same-length-8 : tie.Need-same-length-8
+same-length-8 c = search needs
+
+same-length-9 : tie.Need-same-length-9
+same-length-9 c = search needs
+
+returns : tie.Need-returns
+returns c =
+    let call = c .before .before .before .before .before .before .before .before .before .before .before .before .before .before .before .before .before .before in
+    λ o. put-other o (call .before .before .before .before .before .before .before .before .before .before .before .asked .given .1) (offer-is-no-closing _) (call .offer .ensures 1024 o)
+
+same-length-10 : tie.Need-same-length-10
+same-length-10 c = search needs
+
+same-length-11 : tie.Need-same-length-11
+same-length-11 c = search needs
+
+same-length-12 : tie.Need-same-length-12
+same-length-12 c = search needs
+
+same-length-13 : tie.Need-same-length-13
+same-length-13 c = search needs
+
+same-length-14 : tie.Need-same-length-14
+same-length-14 c = search needs
+
+same-length-15 : tie.Need-same-length-15
+same-length-15 c = search needs
+
+same-length-16 : tie.Need-same-length-16
+same-length-16 c = search needs
+
+same-length-17 : tie.Need-same-length-17
+same-length-17 c = search needs
+
+returns-2 : tie.Need-returns-2
+returns-2 c =
+    let call = c .before .before .before .before .before .before .before .before .before .before .before .before .before .before .before .before in
+    λ o. put-other o (call .before .before .before .before .before .before .before .before .before .before .asked2 .given .1) (take-back-is-no-closing _) (call .take-back .ensures 1024 o)
+
+same-length-18 : tie.Need-same-length-18
+same-length-18 c = search needs
+
+same-length-19 : tie.Need-same-length-19
+same-length-19 c = search needs
+
+same-length-20 : tie.Need-same-length-20
+same-length-20 c = search needs
+
+same-length-21 : tie.Need-same-length-21
+same-length-21 c = search needs
+
+same-length-22 : tie.Need-same-length-22
+same-length-22 c = search needs
+
+same-length-23 : tie.Need-same-length-23
+same-length-23 c = search needs
+
+same-length-24 : tie.Need-same-length-24
+same-length-24 c = search needs
+
+same-length-25 : tie.Need-same-length-25
+same-length-25 c = search needs
+
+returns-3 : tie.Need-returns-3
+returns-3 c =
+    let call = c .before .before .before .before in
+    λ o. put-closing o (call .before .before .before .before .before .before .before .before .before .enum-told .given .1) (call .close .ensures 1024 _ _ o)
+
+returns-4 : tie.Need-returns-4
+returns-4 c = λ o. put-malformed o (c .enum-told2 .given .1)
+
+pub put-spec : {M : Type 1} → statement M
+put-spec =
+    tie.close
+    (tie.spec
+    enum-known-asked
+    offer-requires
+    enum-known-asked-2
+    take-back-requires
+    enum-told
+    close-requires
+    enum-told-2
+    same-length
+    same-length-2
+    same-length-3
+    same-length-4
+    same-length-5
+    same-length-6
+    same-length-7
+    same-length-8
+    same-length-9
+    returns
+    same-length-10
+    same-length-11
+    same-length-12
+    same-length-13
+    same-length-14
+    same-length-15
+    same-length-16
+    same-length-17
+    returns-2
+    same-length-18
+    same-length-19
+    same-length-20
+    same-length-21
+    same-length-22
+    same-length-23
+    same-length-24
+    same-length-25
+    returns-3
+    returns-4)

@@ -1,0 +1,150 @@
+-- `jobs::run::run` meets its contract. The invariant: the records so far are run, and the slices are as long as they were. The measure is how many are left.
+use mathlib.Core.Path.{_≡_, refl, sym, _∙_, subst}
+use Prim.Native.Nat.{ℕ, _-_, _≤_, zero-le}
+use native.Mathlib.Nat.{le-antisymm}
+use native.Mathlib.Omega.{arith}
+use lib.ListN.{length}
+use Rattle.classes.specs.Table.{table}
+use Rattle.types.specs.States.{state, Opened}
+use Rattle.jobs.specs.Putting.{Ran}
+use Rattle.jobs.proofs.Running.{ran-begins, ran-more}
+use borrow.Author.Needs.{needs}
+use Rattle.jobs.proofs.run.run.Statement.{statement}
+use Rattle.jobs.proofs.run.run.Tie as tie
+
+abbrev Inv-loop : tie.InvT-loop
+Inv-loop parent₀ rank₀ shape₀ kind₀ left₀ right₀ trail₀ work₀ nodes₀ listed₀ job answers₀ count live₀ i₀ parent rank shape kind left right trail work nodes listed answers live i =
+    ((o : Opened 1024 (state (table parent rank shape kind left right trail (live .entries) (live .links)) nodes (live .kept))) × Ran job i answers₀ answers listed (o .nodes))
+    × ((length parent ≡ length parent₀) × (length rank ≡ length rank₀) × (length shape ≡ length shape₀) × (length kind ≡ length kind₀) × (length left ≡ length left₀) × (length right ≡ length right₀) × (length trail ≡ length trail₀) × (length work ≡ length work₀) × (length nodes ≡ length nodes₀) × (length listed ≡ length listed₀) × (length answers ≡ length answers₀))
+    × (i ≤ count)
+
+abbrev μ-loop : tie.MeasureT-loop
+μ-loop parent₀ rank₀ shape₀ kind₀ left₀ right₀ trail₀ work₀ nodes₀ listed₀ job answers₀ count live₀ i₀ parent rank shape kind left right trail work nodes listed answers live i = count - i
+
+loop-holds : tie.Need-loop-holds Inv-loop μ-loop
+loop-holds c =
+    let start = c .before .before .before .before .before .before .before .before .before .before .before .before in
+    let (o, none) = start .pre .0 in
+    let (rest, is) = start .pre .1 .1 .1 in
+    ((o, subst (Ran (start .args .job .now) 0 (start .args .answers .now) (start .args .answers .now) (start .args .listed .now)) (sym none) (ran-begins _ _ _ rest is)), (refl, refl, refl, refl, refl, refl, refl, refl, refl, refl, refl), zero-le)
+
+mul-put-bytes : tie.Need-mul-put-bytes Inv-loop μ-loop
+mul-put-bytes c = omega (arith, c .before .before .before .before .before .before .before .before .before .before .loop-test .taken, c .before .before .before .before .before .before .before .before .before .before .before .before .before .before .before .before .before .before .before .before .before .before .before .before .pre .1 .1 .0 .0)
+
+add-put-bytes : tie.Need-add-put-bytes Inv-loop μ-loop
+add-put-bytes c = omega (arith, c .before .before .before .before .before .before .before .before .before .before .loop-test .taken, c .before .before .before .before .before .before .before .before .before .before .before .before .before .before .before .before .before .before .before .before .before .before .before .before .pre .1 .1 .0 .0)
+
+mul-put-bytes-2 : tie.Need-mul-put-bytes-2 Inv-loop μ-loop
+mul-put-bytes-2 c = omega (arith, c .before .before .before .before .before .before .before .before .before .before .before .loop-test .taken, c .before .before .before .before .before .before .before .before .before .before .before .before .before .before .before .before .before .before .before .before .before .before .before .before .before .pre .1 .1 .0 .0)
+
+put-bytes-requires : tie.Need-put-bytes-requires Inv-loop μ-loop
+put-bytes-requires c κs =
+    let inv = c .before .before .before .before .before .before .before .before .before .before .before .before .loop .inv in
+    let low = c .before .before .before .before .before .before .before .before .before .before .before .loop-test .taken in
+    let start = c .before .before .before .before .before .before .before .before .before .before .before .before .before .before .before .before .before .before .before .before .before .before .before .before .before in
+    (
+      inv .0 .0,
+      (
+        record {
+          pairs = omega (arith, start .pre .1 .0 .pairs, inv .1 .0, inv .1 .7);
+          marks = omega (arith, start .pre .1 .0 .marks, inv .1 .7);
+          numbers = omega (arith, start .pre .1 .0 .numbers, inv .1 .9);
+        },
+        (omega (arith, low, start .pre .1 .1 .0 .1), omega (arith, low, start .pre .1 .1 .0 .2, inv .1 .10)),
+      ),
+    )
+
+add-i : tie.Need-add-i Inv-loop μ-loop
+add-i c = omega (arith, c .before .before .before .before .before .before .before .before .before .before .before .before .before .before .before .before .before .before .before .before .before .before .before .before .before .before .before .before .before .before .before .before .before .before .loop-test .taken, c .before .before .before .before .before .before .before .before .before .before .before .before .before .before .before .before .before .before .before .before .before .before .before .before .before .before .before .before .before .before .before .before .before .before .before .before .before .before .before .before .before .before .before .before .before .before .before .before .fits .count)
+
+loop-less : tie.Need-loop-less Inv-loop μ-loop
+loop-less c = omega (arith, c .before .before .before .before .before .before .before .before .before .before .before .before .before .before .before .before .before .before .before .before .before .before .before .before .before .before .before .before .before .before .before .before .before .before .loop-test .taken)
+
+loop-again : tie.Need-loop-again Inv-loop μ-loop
+loop-again c =
+    let p = c .before .before .before .before .before .before .before .before .before .before .before .before .before .before .before .before .before .before .before .before .before .before in
+    let inv = p .before .before .before .before .before .before .before .before .before .before .before .before .before .loop .inv in
+    let x = p .put-bytes .ensures (inv .0 .0) in (
+      (x .called .after, ran-more (inv .0 .1) x),
+      (
+        p .put-bytes .kept .0 ∙ inv .1 .0,
+        p .put-bytes .kept .1 .0 ∙ inv .1 .1,
+        p .put-bytes .kept .1 .1 .0 ∙ inv .1 .2,
+        p .put-bytes .kept .1 .1 .1 .0 ∙ inv .1 .3,
+        p .put-bytes .kept .1 .1 .1 .1 .0 ∙ inv .1 .4,
+        p .put-bytes .kept .1 .1 .1 .1 .1 .0 ∙ inv .1 .5,
+        p .put-bytes .kept .1 .1 .1 .1 .1 .1 .0 ∙ inv .1 .6,
+        p .put-bytes .kept .1 .1 .1 .1 .1 .1 .1 .0 ∙ inv .1 .7,
+        p .put-bytes .kept .1 .1 .1 .1 .1 .1 .1 .1 .0 ∙ inv .1 .8,
+        p .put-bytes .kept .1 .1 .1 .1 .1 .1 .1 .1 .1 .0 ∙ inv .1 .9,
+        p .put-bytes .kept .1 .1 .1 .1 .1 .1 .1 .1 .1 .1 .1 .1 .0 ∙ inv .1 .10,
+      ),
+      omega (arith, p .before .before .before .before .before .before .before .before .before .before .before .before .loop-test .taken),
+    )
+
+same-length : tie.Need-same-length Inv-loop μ-loop
+same-length c = c .before .loop .inv .1 .0
+
+same-length-2 : tie.Need-same-length-2 Inv-loop μ-loop
+same-length-2 c = c .before .loop .inv .1 .1
+
+same-length-3 : tie.Need-same-length-3 Inv-loop μ-loop
+same-length-3 c = c .before .loop .inv .1 .2
+
+same-length-4 : tie.Need-same-length-4 Inv-loop μ-loop
+same-length-4 c = c .before .loop .inv .1 .3
+
+same-length-5 : tie.Need-same-length-5 Inv-loop μ-loop
+same-length-5 c = c .before .loop .inv .1 .4
+
+same-length-6 : tie.Need-same-length-6 Inv-loop μ-loop
+same-length-6 c = c .before .loop .inv .1 .5
+
+same-length-7 : tie.Need-same-length-7 Inv-loop μ-loop
+same-length-7 c = c .before .loop .inv .1 .6
+
+same-length-8 : tie.Need-same-length-8 Inv-loop μ-loop
+same-length-8 c = c .before .loop .inv .1 .7
+
+same-length-9 : tie.Need-same-length-9 Inv-loop μ-loop
+same-length-9 c = c .before .loop .inv .1 .8
+
+same-length-10 : tie.Need-same-length-10 Inv-loop μ-loop
+same-length-10 c = c .before .loop .inv .1 .9
+
+same-length-11 : tie.Need-same-length-11 Inv-loop μ-loop
+same-length-11 c = c .before .loop .inv .1 .10
+
+returns : tie.Need-returns Inv-loop μ-loop
+returns c =
+    let inv = c .before .loop .inv in
+    let start = c .before .before .before .before .before .before .before .before .before .before .before .before .before .before in
+    let all = le-antisymm (inv .2) (c .loop-test .left) in
+    (inv .0 .0 .nodes, subst (λ (n : ℕ). Ran (start .args .job .now) n (start .args .answers .now) (c .before .loop .answers) (c .before .loop .listed) (inv .0 .0 .nodes)) all (inv .0 .1))
+
+pub run-spec : {M : Type 1} → statement M
+run-spec =
+    tie.close
+    (tie.spec
+    Inv-loop
+    μ-loop
+    loop-holds
+    mul-put-bytes
+    add-put-bytes
+    mul-put-bytes-2
+    put-bytes-requires
+    add-i
+    loop-less
+    loop-again
+    same-length
+    same-length-2
+    same-length-3
+    same-length-4
+    same-length-5
+    same-length-6
+    same-length-7
+    same-length-8
+    same-length-9
+    same-length-10
+    same-length-11
+    returns)

@@ -1,0 +1,67 @@
+// The job call: any bytes in, every answer and every number of the listing out. It starts from a fresh state, puts the records
+// one after the other to the core of `types` on tables of its own, and copies no table: its cost is that of its records.
+
+pub mod run;
+
+use formats::header;
+use formats::header::Outcome;
+use formats::listing;
+use types::limits::ENTRIES;
+use types::limits::LISTING;
+use types::limits::NODES;
+use types::limits::TRAIL;
+use types::limits::WORK;
+use types::state;
+ghost use Rattle.jobs.specs.Jobs.{Job};
+
+// Bytes of the header, and of a record.
+const HEADER: usize = 16;
+
+const EIGHT: usize = 8;
+
+// Runs a job, or refuses it and leaves both buffers as they are.
+pub fn job(job: &[u8], answers: &mut [u8], listing: &mut [u16]) -> Outcome
+    ensures { λ r. ⌜ Job (now (job .entry)) (now (answers .entry)) (now (listing .entry)) r (now (answers .exit)) (now (listing .exit)) ⌝ }
+{
+    let outcome = header::judge(job, answers.len(), listing.len());
+    let Outcome::Done = outcome else {
+        return outcome;
+    };
+    let mut parent = [0u16; ENTRIES];
+    let mut rank = [0u16; ENTRIES];
+    let mut shape = [0u16; ENTRIES];
+    let mut kind = [0u16; ENTRIES];
+    let mut left = [0u16; ENTRIES];
+    let mut right = [0u16; ENTRIES];
+    let mut trail = [0u16; TRAIL];
+    let mut work = [0u16; WORK];
+    let mut nodes = [0u16; NODES];
+    let mut listed = [0u16; LISTING];
+    let live = state::open(
+        &mut parent,
+        &mut rank,
+        &mut shape,
+        &mut kind,
+        &mut left,
+        &mut right,
+    );
+    listing::clear(&mut listed);
+    run::run(
+        &mut parent,
+        &mut rank,
+        &mut shape,
+        &mut kind,
+        &mut left,
+        &mut right,
+        &mut trail,
+        &mut work,
+        &mut nodes,
+        &mut listed,
+        job,
+        answers,
+        live,
+        (job.len() - HEADER) / EIGHT,
+    );
+    listing::show(&listed, listing);
+    Outcome::Done
+}

@@ -1,0 +1,189 @@
+// The records of a job, one after the other. The tables are lent in the core's order, then what is listed, the bytes and the
+// answers.
+
+use formats::answers;
+use formats::listing;
+use nodes::Record;
+use nodes::records;
+use types::Answer;
+use types::state;
+use types::state::Live;
+use types::state::Step;
+ghost use mathlib.Core.Path.{_≡_};
+ghost use mathlib.Core.List.{List, [], _++_};
+ghost use Prim.Native.Nat.{ℕ, _+_, _*_, _≤_};
+ghost use lib.ListN.{length};
+ghost use Rattle.classes.specs.Table.{table};
+ghost use Rattle.nodes.specs.Layout.{Proper};
+ghost use Rattle.nodes.specs.declared.Node.{Node};
+ghost use Rattle.nodes.specs.declared.Record.the-variants.{Offer};
+ghost use Rattle.types.specs.States.{state, Opened};
+ghost use Rattle.types.specs.Closings.{no-listing};
+ghost use Rattle.jobs.specs.Putting.{Room, Put, Recorded, Ran};
+
+// Bytes of the header, and of a record and its answer.
+const HEADER: usize = 16;
+
+const EIGHT: usize = 8;
+
+// Puts one record to the state. A closing's listing goes into `listed`.
+fn put(
+    parent: &mut [u16],
+    rank: &mut [u16],
+    shape: &mut [u16],
+    kind: &mut [u16],
+    left: &mut [u16],
+    right: &mut [u16],
+    trail: &mut [u16],
+    work: &mut [u16],
+    nodes: &mut [u16],
+    listed: &mut [u16],
+    live: Live,
+    asked: Record,
+) -> Step
+    requires { ⌜ Opened 1024 (state (table (now parent) (now rank) (now shape) (now kind) (now left) (now right) (now trail) (live .entries) (live .links)) (now nodes) (live .kept)) ⌝ }
+    requires { ⌜ ((n : Node) → asked ≡ Offer n → Proper n) × Room (state (table (now parent) (now rank) (now shape) (now kind) (now left) (now right) (now trail) (live .entries) (live .links)) (now nodes) (live .kept)) (now work) (now listed) ⌝ }
+    ensures { λ r. ⌜ ((o : Opened 1024 (state (table (now (parent .entry)) (now (rank .entry)) (now (shape .entry)) (now (kind .entry)) (now (left .entry)) (now (right .entry)) (now (trail .entry)) (live .entries) (live .links)) (now (nodes .entry)) (live .kept))) →
+        Put (state (table (now (parent .entry)) (now (rank .entry)) (now (shape .entry)) (now (kind .entry)) (now (left .entry)) (now (right .entry)) (now (trail .entry)) (live .entries) (live .links)) (now (nodes .entry)) (live .kept)) o asked (now (listed .entry)) (r .answer)
+        (state (table (now (parent .exit)) (now (rank .exit)) (now (shape .exit)) (now (kind .exit)) (now (left .exit)) (now (right .exit)) (now (trail .exit)) (r .live .entries) (r .live .links)) (now (nodes .exit)) (r .live .kept)) (now (listed .exit))) ⌝ }
+{
+    match asked {
+        Record::Offer(n) => state::offer(
+            parent,
+            rank,
+            shape,
+            kind,
+            left,
+            right,
+            trail,
+            work,
+            nodes,
+            live,
+            n,
+        ),
+        Record::TakeBack(to) => state::take_back(
+            parent,
+            rank,
+            shape,
+            kind,
+            left,
+            right,
+            trail,
+            nodes,
+            live,
+            to,
+        ),
+        Record::Close => {
+            let answer = state::close(
+                parent,
+                shape,
+                kind,
+                left,
+                right,
+                nodes,
+                work,
+                listed,
+                live,
+            );
+            Step { answer, live }
+        }
+        Record::Malformed => Step {
+            answer: Answer::Malformed,
+            live,
+        },
+    }
+}
+
+// Puts the record at `from`, writes its answer at `to`, and gives the counts then. What is listed is after a record of kind 65 its
+// listing, or 0, 0, 4, 4 where it has none.
+pub fn put_bytes(
+    parent: &mut [u16],
+    rank: &mut [u16],
+    shape: &mut [u16],
+    kind: &mut [u16],
+    left: &mut [u16],
+    right: &mut [u16],
+    trail: &mut [u16],
+    work: &mut [u16],
+    nodes: &mut [u16],
+    listed: &mut [u16],
+    bytes: &[u8],
+    from: usize,
+    answers: &mut [u8],
+    to: usize,
+    live: Live,
+) -> Live
+    requires { ⌜ Opened 1024 (state (table (now parent) (now rank) (now shape) (now kind) (now left) (now right) (now trail) (live .entries) (live .links)) (now nodes) (live .kept)) ⌝ }
+    requires { ⌜ Room (state (table (now parent) (now rank) (now shape) (now kind) (now left) (now right) (now trail) (live .entries) (live .links)) (now nodes) (live .kept)) (now work) (now listed) ⌝ }
+    requires { ⌜ (from + 8 ≤ length (now bytes)) × (to + 8 ≤ length (now answers)) ⌝ }
+    ensures { λ r. ⌜ ((o : Opened 1024 (state (table (now (parent .entry)) (now (rank .entry)) (now (shape .entry)) (now (kind .entry)) (now (left .entry)) (now (right .entry)) (now (trail .entry)) (live .entries) (live .links)) (now (nodes .entry)) (live .kept))) →
+        Recorded (state (table (now (parent .entry)) (now (rank .entry)) (now (shape .entry)) (now (kind .entry)) (now (left .entry)) (now (right .entry)) (now (trail .entry)) (live .entries) (live .links)) (now (nodes .entry)) (live .kept)) o
+        (now (bytes .entry)) from (now (listed .entry)) (now (answers .entry)) to
+        (state (table (now (parent .exit)) (now (rank .exit)) (now (shape .exit)) (now (kind .exit)) (now (left .exit)) (now (right .exit)) (now (trail .exit)) (r .entries) (r .links)) (now (nodes .exit)) (r .kept)) (now (listed .exit)) (now (answers .exit))) ⌝ }
+{
+    let step = put(
+        parent,
+        rank,
+        shape,
+        kind,
+        left,
+        right,
+        trail,
+        work,
+        nodes,
+        listed,
+        live,
+        records::decode(bytes, from),
+    );
+    let answer = step.answer;
+    answers::write(answers, to, answer);
+    listing::settle(listed, bytes[from], answer);
+    step.live
+}
+
+// Puts the first `count` records of a job to a fresh state.
+pub(super) fn run(
+    parent: &mut [u16],
+    rank: &mut [u16],
+    shape: &mut [u16],
+    kind: &mut [u16],
+    left: &mut [u16],
+    right: &mut [u16],
+    trail: &mut [u16],
+    work: &mut [u16],
+    nodes: &mut [u16],
+    listed: &mut [u16],
+    job: &[u8],
+    answers: &mut [u8],
+    opened: Live,
+    count: usize,
+)
+    requires { ⌜ ((o : Opened 1024 (state (table (now parent) (now rank) (now shape) (now kind) (now left) (now right) (now trail) (opened .entries) (opened .links)) (now nodes) (opened .kept))) × (o .nodes ≡ [])) ⌝ }
+    requires { ⌜ Room (state (table (now parent) (now rank) (now shape) (now kind) (now left) (now right) (now trail) (opened .entries) (opened .links)) (now nodes) (opened .kept)) (now work) (now listed) ⌝ }
+    requires { ⌜ (count ≤ 4096) × (16 + 8 * count ≤ length (now job)) × (8 * count ≤ length (now answers)) ⌝ }
+    requires { ⌜ ((rest : List ℕ) × (now listed ≡ no-listing ++ rest)) ⌝ }
+    ensures { λ _. ⌜ ((kept : List Node) × Ran (now (job .entry)) count (now (answers .entry)) (now (answers .exit)) (now (listed .exit)) kept) ⌝ }
+{
+    let mut live = opened;
+    let mut i: usize = 0;
+    while i < count {
+        live = put_bytes(
+            parent,
+            rank,
+            shape,
+            kind,
+            left,
+            right,
+            trail,
+            work,
+            nodes,
+            listed,
+            job,
+            HEADER + EIGHT * i,
+            answers,
+            EIGHT * i,
+            live,
+        );
+        i += 1;
+    }
+}
