@@ -2,6 +2,7 @@
 // Each call lends the arrays to the core once and builds the state again. A job uses the core itself, which copies nothing.
 
 use nodes::Node;
+use nodes::records::LARGEST_WORD;
 use types::Answer;
 use types::limits::ENTRIES;
 use types::limits::LISTING;
@@ -21,8 +22,6 @@ ghost use Rattle.calls.specs.Values.{state-of};
 ghost use Rattle.types.specs.Calls.{Called};
 ghost use Rattle.calls.specs.Handed.{Handed};
 ghost use Rattle.nodes.specs.declared.Record.the-variants.{Offer, TakeBack, Close};
-
-const LARGEST_WORD: u16 = 31;
 
 pub struct State {
     pub parent: [u16; 8225],

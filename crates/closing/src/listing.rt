@@ -1,7 +1,9 @@
 // All the nodes in order, and the listing: nodes, types, offset of the types, offset of the arrows, the types, the arrows.
 
 use super::Closing;
+use super::numbering::ROW;
 use super::walk;
+use super::walk::NUMBERED;
 use super::walk::Visited;
 use classes::union_bound;
 ghost use mathlib.Core.Path.{_≡_};
@@ -16,17 +18,12 @@ ghost use Rattle.closing.specs.Closings.{source-at, target-at, ClosedBy}
 ghost use Rattle.closing.specs.Visiting.{Settled};
 ghost use Rattle.closing.specs.Writing.{cleared, ArrowBy, Closable, AllBy, type-number, Numberable, ArrowsWritten, ListingWritten};
 
-// Numbers of working memory for each entry; the mark comes first, and is two more than the type's number.
-const ROW: usize = 4;
-
-const NUMBERED: u16 = 2;
-
 // Numbers in a node's row, and where its source and target stand.
-const NODE: usize = 7;
+pub const NODE: usize = 7;
 
-const SOURCE: usize = 3;
+pub const SOURCE: usize = 3;
 
-const TARGET: usize = 4;
+pub const TARGET: usize = 4;
 
 // Where the types begin, and the numbers of each.
 const TYPES: u16 = 4;

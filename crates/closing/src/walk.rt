@@ -1,6 +1,7 @@
 // The walk down the classes. A path of open classes takes the place of calls, so no depth of types needs stack.
 
 use super::numbering;
+use super::numbering::ROW;
 use classes::Bound;
 use classes::context;
 use classes::union_bound;
@@ -15,9 +16,7 @@ ghost use Rattle.typing.specs.Types.{Ty};
 ghost use Rattle.closing.specs.Visiting.{Settled, VisitedBy};
 ghost use Rattle.closing.specs.Walking.{mark-at, opened, seen, PartsBelow, Seeable, Steppable, Completed, Parted, Stepped};
 
-// Numbers of working memory for each entry, and where the path stands among them; the mark comes first.
-const ROW: usize = 4;
-
+// Where the path stands among an entry's numbers of working memory; the mark comes first.
 const PATH: usize = 1;
 
 // Marks: not seen, open (on the path), and from there on two more than the type's number.
@@ -25,7 +24,7 @@ const UNSEEN: u16 = 0;
 
 const OPEN: u16 = 1;
 
-const NUMBERED: u16 = 2;
+pub(super) const NUMBERED: u16 = 2;
 
 // What one step leaves: a class that lies inside itself, or how long the path is and how many types there are.
 pub enum Turn {

@@ -1,15 +1,16 @@
 // A job opens with four numbers: format, how many records, where the first begins, the job's length. Whatever they are, and
 // whatever buffers are lent, the job is refused with one code or can be run.
 
+use types::limits::LISTING;
 ghost use mathlib.Core.Path.{_≡_};
 ghost use Prim.Native.Nat.{_+_, _*_, _≤_};
 ghost use lib.ListN.{length};
 ghost use Rattle.formats.specs.Header.{four-bytes, judged, code-of};
 
 // Bytes of the header, and of a record and its answer.
-const HEADER: usize = 16;
+pub const HEADER: usize = 16;
 
-const EIGHT: usize = 8;
+pub const EIGHT: usize = 8;
 
 const FORMAT: u32 = 1;
 
@@ -21,9 +22,6 @@ const COUNT: usize = 4;
 const OFFSET: usize = 8;
 
 const TOTAL: usize = 12;
-
-// Numbers of the longest listing: 4 + 3 × 8,225 + 2 × 1,024.
-const LISTING: usize = 26727;
 
 // What becomes of a job.
 pub enum Outcome {

@@ -4,6 +4,8 @@
 pub mod run;
 
 use formats::header;
+use formats::header::EIGHT;
+use formats::header::HEADER;
 use formats::header::Outcome;
 use formats::listing;
 use types::limits::ENTRIES;
@@ -13,11 +15,6 @@ use types::limits::TRAIL;
 use types::limits::WORK;
 use types::state;
 ghost use Rattle.jobs.specs.Jobs.{Job};
-
-// Bytes of the header, and of a record.
-const HEADER: usize = 16;
-
-const EIGHT: usize = 8;
 
 // Runs a job, or refuses it and leaves both buffers as they are.
 pub fn job(job: &[u8], answers: &mut [u8], listing: &mut [u16]) -> Outcome

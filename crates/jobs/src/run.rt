@@ -2,6 +2,8 @@
 // answers.
 
 use formats::answers;
+use formats::header::EIGHT;
+use formats::header::HEADER;
 use formats::listing;
 use nodes::Record;
 use nodes::records;
@@ -20,11 +22,6 @@ ghost use Rattle.nodes.specs.declared.Record.the-variants.{Offer};
 ghost use Rattle.types.specs.States.{state, Opened};
 ghost use Rattle.types.specs.Closings.{no-listing};
 ghost use Rattle.jobs.specs.Putting.{Room, Put, Recorded, Ran};
-
-// Bytes of the header, and of a record and its answer.
-const HEADER: usize = 16;
-
-const EIGHT: usize = 8;
 
 // Puts one record to the state. A closing's listing goes into `listed`.
 fn put(

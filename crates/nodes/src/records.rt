@@ -10,7 +10,7 @@ ghost use Rattle.nodes.specs.Records.{spare, no-child, word as word-reco
 ghost use Rattle.nodes.specs.declared.Record.the-variants.{Offer};
 
 // The largest n of a word: 2^(2^31).
-const LARGEST_WORD: u16 = 31;
+pub const LARGEST_WORD: u16 = 31;
 
 fn two_bytes(low: u8, high: u8) -> u16
     ensures { λ r. ⌜ r ≡ low + 256 * high ⌝ }

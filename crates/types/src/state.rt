@@ -13,6 +13,9 @@ use classes::context::Joined;
 use classes::undo;
 use closing::Closing;
 use closing::listing;
+use closing::listing::NODE;
+use closing::listing::SOURCE;
+use closing::listing::TARGET;
 use nodes::Node;
 use nodes::arrow;
 use nodes::arrow::Adds;
@@ -37,13 +40,7 @@ ghost use Rattle.types.specs.Calls.{Called};
 ghost use Rattle.types.specs.Calls.{Closing as Closes};
 ghost use Rattle.nodes.specs.declared.Record.the-variants.{Offer, TakeBack};
 
-// Numbers in a node's row, and where they stand in it.
-const ROW: usize = 7;
-
-const SOURCE: usize = 3;
-
-const TARGET: usize = 4;
-
+// Where the entries and the links before it stand in a node's row.
 const ENTRIES: usize = 5;
 
 const LINKS: usize = 6;
@@ -198,7 +195,7 @@ fn arrow_at(nodes: &[u16], i: u16) -> Arrow
     requires { ⌜ 7 * i + 7 ≤ length (now nodes) ⌝ }
     ensures { λ r. ⌜ r ≡ from-to (getD (now (nodes .entry)) (7 * i + 3) 0) (getD (now (nodes .entry)) (7 * i + 4) 0) ⌝ }
 {
-    let row = ROW * (i as usize);
+    let row = NODE * (i as usize);
     Arrow {
         source: nodes[row + SOURCE],
         target: nodes[row + TARGET],
@@ -209,7 +206,7 @@ fn write_row(nodes: &mut [u16], i: u16, n: Node, gives: Arrow, before: Mark)
     requires { ⌜ 7 * i + 7 ≤ length (now nodes) ⌝ }
     ensures { λ _. ⌜ now (nodes .exit) ≡ row-written (now (nodes .entry)) i (row-numbers n gives (before .entries) (before .links)) ⌝ }
 {
-    let row = ROW * (i as usize);
+    let row = NODE * (i as usize);
     nodes[row] = kind_number(n);
     nodes[row + 1] = first_field(n);
     nodes[row + 2] = second_field(n);
@@ -224,8 +221,8 @@ fn clear_rows(nodes: &mut [u16], from: u16, to: u16)
     requires { ⌜ (from ≤ to) × (7 * to ≤ length (now nodes)) ⌝ }
     ensures { λ _. ⌜ now (nodes .exit) ≡ rows-cleared (now (nodes .entry)) from to ⌝ }
 {
-    let mut i = ROW * (from as usize);
-    let end = ROW * (to as usize);
+    let mut i = NODE * (from as usize);
+    let end = NODE * (to as usize);
     while i < end {
         nodes[i] = 0;
         i += 1;
@@ -424,7 +421,7 @@ pub fn offer(
         (state (table (now (parent .exit)) (now (rank .exit)) (now (shape .exit)) (now (kind .exit)) (now (left .exit)) (now (right .exit)) (now (trail .exit)) (r .live .entries) (r .live .links)) (now (nodes .exit)) (r .live .kept))) ⌝ }
 {
     let kept = live.kept;
-    if nodes.len() <= ROW * (kept as usize) {
+    if nodes.len() <= NODE * (kept as usize) {
         return Step {
             answer: Answer::Full,
             live,
@@ -508,7 +505,7 @@ pub fn take_back(
             live,
         };
     }
-    let row = ROW * (to as usize);
+    let row = NODE * (to as usize);
     let entries = nodes[row + ENTRIES];
     let links = nodes[row + LINKS];
     let now = Mark {

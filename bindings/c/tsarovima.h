@@ -1,0 +1,116 @@
+/* Tsarovima for C: the job call, and the record calls for a host that keeps one table for many clients.
+ *
+ * The functions are in libtsarovima_c.a, which `rt staticlib tsarovima_c` proves and writes (x86-64). They allocate nothing, keep
+ * nothing between calls, and call nothing but memcpy and memset. A pointer and the length after it are one buffer: the length is
+ * in elements, not bytes, and a buffer of no elements still needs a pointer that is not null. No two buffers of a call may overlap.
+ *
+ * Formats, kinds, codes and the listing are those of document 01, "State and records" and "Job and listing". */
+
+#ifndef TSAROVIMA_H
+#define TSAROVIMA_H
+
+#include <stddef.h>
+#include <stdint.h>
+
+#ifdef __cplusplus
+extern "C" {
+#endif
+
+/* The longest job, its answers, and the listing buffer that every job needs (in numbers). */
+#define TSAROVIMA_JOB_MOST 32784
+#define TSAROVIMA_ANSWERS_MOST 32768
+#define TSAROVIMA_LISTING 26727
+
+/* Runs a job from a fresh state.
+ *
+ * Reads job[0 .. job_len). Returns 0, or a refusal 16 to 22, after which neither buffer was written to.
+ * After 0 it has written eight bytes of answers for each record, and the listing of the last record of kind 65 (0, 0, 4, 4 if that
+ * was refused, or if there was none). Bytes and numbers past these are as they were.
+ *
+ * Any bytes may be lent. It takes some 280 KiB of stack: see the README for the measured figure. */
+uint32_t tsarovima_job(const uint8_t *job, size_t job_len, uint8_t *answers, size_t answers_len, uint16_t *listing,
+                       size_t listing_len);
+
+/* ---- record calls ----
+ *
+ * The tables are the host's. It must not write to them, copy parts of them over each other, or lend tables to tsarovima_record or
+ * tsarovima_close that did not come from tsarovima_open and these calls: what the calls promise is proved for such tables alone,
+ * and with others they may read and write outside the buffers. One set of tables serves one thread at a time.
+ *
+ * The lengths below are looked at: a wrong one returns 1, and nothing was written. */
+
+#define TSAROVIMA_ENTRIES 8225
+#define TSAROVIMA_TRAIL 24675
+#define TSAROVIMA_NODES 7168
+#define TSAROVIMA_WORK 32900
+
+#define TSAROVIMA_DONE 0
+#define TSAROVIMA_WRONG_LENGTH 1
+
+/* Makes the tables a fresh state, whatever they hold: parent, rank, shape, kind, left and right of TSAROVIMA_ENTRIES numbers, trail
+ * of TSAROVIMA_TRAIL, nodes of TSAROVIMA_NODES, live of 3. */
+uint32_t tsarovima_open(uint16_t *parent, size_t parent_len, uint16_t *rank, size_t rank_len, uint16_t *shape, size_t shape_len,
+                        uint16_t *kind, size_t kind_len, uint16_t *left, size_t left_len, uint16_t *right, size_t right_len,
+                        uint16_t *trail, size_t trail_len, uint16_t *nodes, size_t nodes_len, uint16_t *live, size_t live_len);
+
+/* Puts the record in the first eight bytes of `record`, and writes its answer in the first eight of `answer`. A record of kind 65
+ * writes its listing into `listing` (at least TSAROVIMA_LISTING numbers), or 0, 0, 4, 4 if it is refused; after code 5 the numbers
+ * past these four are not as they were. Any other record leaves `listing` alone. `work` has at least TSAROVIMA_WORK numbers; what it
+ * holds before does not matter, and after a call it means nothing. */
+uint32_t tsarovima_record(uint16_t *parent, size_t parent_len, uint16_t *rank, size_t rank_len, uint16_t *shape,
+                          size_t shape_len, uint16_t *kind, size_t kind_len, uint16_t *left, size_t left_len, uint16_t *right,
+                          size_t right_len, uint16_t *trail, size_t trail_len, uint16_t *nodes, size_t nodes_len,
+                          uint16_t *live, size_t live_len, uint16_t *work, size_t work_len, const uint8_t *record,
+                          size_t record_len, uint8_t *answer, size_t answer_len, uint16_t *listing, size_t listing_len);
+
+/* The record of kind 65: the same with no record to lend. */
+uint32_t tsarovima_close(uint16_t *parent, size_t parent_len, uint16_t *rank, size_t rank_len, uint16_t *shape, size_t shape_len,
+                         uint16_t *kind, size_t kind_len, uint16_t *left, size_t left_len, uint16_t *right, size_t right_len,
+                         uint16_t *trail, size_t trail_len, uint16_t *nodes, size_t nodes_len, uint16_t *live, size_t live_len,
+                         uint16_t *work, size_t work_len, uint8_t *answer, size_t answer_len, uint16_t *listing,
+                         size_t listing_len);
+
+/* All that a host lends for the record calls, with the right lengths: 300 KiB. */
+typedef struct {
+    uint16_t parent[TSAROVIMA_ENTRIES];
+    uint16_t rank[TSAROVIMA_ENTRIES];
+    uint16_t shape[TSAROVIMA_ENTRIES];
+    uint16_t kind[TSAROVIMA_ENTRIES];
+    uint16_t left[TSAROVIMA_ENTRIES];
+    uint16_t right[TSAROVIMA_ENTRIES];
+    uint16_t trail[TSAROVIMA_TRAIL];
+    uint16_t nodes[TSAROVIMA_NODES];
+    uint16_t live[3];
+    uint16_t work[TSAROVIMA_WORK];
+    uint16_t listing[TSAROVIMA_LISTING];
+} tsarovima_tables;
+
+/* Opens; puts one record of eight bytes and has its answer in eight; closes. t->listing is the listing after a closing. */
+static inline uint32_t tsarovima_tables_open(tsarovima_tables *t)
+{
+    return tsarovima_open(t->parent, TSAROVIMA_ENTRIES, t->rank, TSAROVIMA_ENTRIES, t->shape, TSAROVIMA_ENTRIES, t->kind,
+                          TSAROVIMA_ENTRIES, t->left, TSAROVIMA_ENTRIES, t->right, TSAROVIMA_ENTRIES, t->trail, TSAROVIMA_TRAIL,
+                          t->nodes, TSAROVIMA_NODES, t->live, 3);
+}
+
+static inline uint32_t tsarovima_tables_record(tsarovima_tables *t, const uint8_t record[8], uint8_t answer[8])
+{
+    return tsarovima_record(t->parent, TSAROVIMA_ENTRIES, t->rank, TSAROVIMA_ENTRIES, t->shape, TSAROVIMA_ENTRIES, t->kind,
+                            TSAROVIMA_ENTRIES, t->left, TSAROVIMA_ENTRIES, t->right, TSAROVIMA_ENTRIES, t->trail,
+                            TSAROVIMA_TRAIL, t->nodes, TSAROVIMA_NODES, t->live, 3, t->work, TSAROVIMA_WORK, record, 8, answer,
+                            8, t->listing, TSAROVIMA_LISTING);
+}
+
+static inline uint32_t tsarovima_tables_close(tsarovima_tables *t, uint8_t answer[8])
+{
+    return tsarovima_close(t->parent, TSAROVIMA_ENTRIES, t->rank, TSAROVIMA_ENTRIES, t->shape, TSAROVIMA_ENTRIES, t->kind,
+                           TSAROVIMA_ENTRIES, t->left, TSAROVIMA_ENTRIES, t->right, TSAROVIMA_ENTRIES, t->trail, TSAROVIMA_TRAIL,
+                           t->nodes, TSAROVIMA_NODES, t->live, 3, t->work, TSAROVIMA_WORK, answer, 8, t->listing,
+                           TSAROVIMA_LISTING);
+}
+
+#ifdef __cplusplus
+}
+#endif
+
+#endif

@@ -1,0 +1,10 @@
+pub mod Whatever
+pub mod Joining
+pub mod Rules
+pub mod Deciding
+pub mod Offers
+pub mod Walking
+pub mod Closing
+pub mod Taking
+pub mod Model
+pub mod All

@@ -1,0 +1,52 @@
+-- `job_runs::random::count_answers` has no promise but that it ends. The array that it writes keeps its length.
+use mathlib.Core.Path.{_≡_}
+use Prim.Native.Nat.{_-_}
+use borrow.Author.Needs.{needs}
+use lib.ListN.{length}
+use Rattle.job_runs.proofs.random.count_answers.Statement.{statement}
+use Rattle.job_runs.proofs.random.count_answers.Tie as tie
+
+abbrev Inv-loop : tie.InvT-loop
+Inv-loop counts₀ answers count i₀ counts i = length counts ≡ length counts₀
+
+abbrev μ-loop : tie.MeasureT-loop
+μ-loop counts₀ answers count i₀ counts i = count - i
+
+loop-holds : tie.Need-loop-holds Inv-loop μ-loop
+loop-holds c = search needs
+
+code-at-requires : tie.Need-code-at-requires Inv-loop μ-loop
+code-at-requires c κs = search needs
+
+count-one-requires : tie.Need-count-one-requires Inv-loop μ-loop
+count-one-requires c κs = search needs
+
+add-i : tie.Need-add-i Inv-loop μ-loop
+add-i c = search needs
+
+loop-less : tie.Need-loop-less Inv-loop μ-loop
+loop-less c = search needs
+
+loop-again : tie.Need-loop-again Inv-loop μ-loop
+loop-again c = search needs
+
+same-length : tie.Need-same-length Inv-loop μ-loop
+same-length c = search needs
+
+returns : tie.Need-returns Inv-loop μ-loop
+returns c = search needs
+
+pub count-answers-spec : {M : Type 1} → statement M
+count-answers-spec =
+    tie.close
+    (tie.spec
+    Inv-loop
+    μ-loop
+    loop-holds
+    code-at-requires
+    count-one-requires
+    add-i
+    loop-less
+    loop-again
+    same-length
+    returns)

@@ -1,0 +1,52 @@
+-- `job_runs::refused::units` has no promise but that it ends. The array that it writes keeps its length.
+use mathlib.Core.Path.{_≡_}
+use Prim.Native.Nat.{_-_}
+use borrow.Author.Needs.{needs}
+use lib.ListN.{length}
+use Rattle.job_runs.proofs.refused.units.Statement.{statement}
+use Rattle.job_runs.proofs.refused.units.Tie as tie
+
+abbrev Inv-loop : tie.InvT-loop
+Inv-loop bytes₀ i₀ bytes i = length bytes ≡ length bytes₀
+
+abbrev μ-loop : tie.MeasureT-loop
+μ-loop bytes₀ i₀ bytes i = 4098 - i
+
+loop-holds : tie.Need-loop-holds Inv-loop μ-loop
+loop-holds c = search needs
+
+asks-requires : tie.Need-asks-requires Inv-loop μ-loop
+asks-requires c κs = search needs
+
+record-requires : tie.Need-record-requires Inv-loop μ-loop
+record-requires c κs = search needs
+
+add-i : tie.Need-add-i Inv-loop μ-loop
+add-i c = search needs
+
+loop-less : tie.Need-loop-less Inv-loop μ-loop
+loop-less c = search needs
+
+loop-again : tie.Need-loop-again Inv-loop μ-loop
+loop-again c = search needs
+
+same-length : tie.Need-same-length Inv-loop μ-loop
+same-length c = search needs
+
+returns : tie.Need-returns Inv-loop μ-loop
+returns c = search needs
+
+pub units-spec : {M : Type 1} → statement M
+units-spec =
+    tie.close
+    (tie.spec
+    Inv-loop
+    μ-loop
+    loop-holds
+    asks-requires
+    record-requires
+    add-i
+    loop-less
+    loop-again
+    same-length
+    returns)

@@ -1,0 +1,52 @@
+-- `tsarovima::report::types` has no promise but that it ends. The array that it writes keeps its length.
+use mathlib.Core.Path.{_≡_}
+use Prim.Native.Nat.{_-_}
+use borrow.Author.Needs.{needs}
+use lib.ListN.{length}
+use Rattle.tsarovima.proofs.report.types.Statement.{statement}
+use Rattle.tsarovima.proofs.report.types.Tie as tie
+
+abbrev Inv-loop : tie.InvT-loop
+Inv-loop page₀ listing offset count place₀ i₀ page place i = length page ≡ length page₀
+
+abbrev μ-loop : tie.MeasureT-loop
+μ-loop page₀ listing offset count place₀ i₀ page place i = count - i
+
+loop-holds : tie.Need-loop-holds Inv-loop μ-loop
+loop-holds c = search needs
+
+triple-at-requires : tie.Need-triple-at-requires Inv-loop μ-loop
+triple-at-requires c κs = search needs
+
+type-line-requires : tie.Need-type-line-requires Inv-loop μ-loop
+type-line-requires c κs = search needs
+
+add-i : tie.Need-add-i Inv-loop μ-loop
+add-i c = search needs
+
+loop-less : tie.Need-loop-less Inv-loop μ-loop
+loop-less c = search needs
+
+loop-again : tie.Need-loop-again Inv-loop μ-loop
+loop-again c = search needs
+
+same-length : tie.Need-same-length Inv-loop μ-loop
+same-length c = search needs
+
+returns : tie.Need-returns Inv-loop μ-loop
+returns c = search needs
+
+pub types-spec : {M : Type 1} → statement M
+types-spec =
+    tie.close
+    (tie.spec
+    Inv-loop
+    μ-loop
+    loop-holds
+    triple-at-requires
+    type-line-requires
+    add-i
+    loop-less
+    loop-again
+    same-length
+    returns)

@@ -1,0 +1,57 @@
+-- Tables that a host lends: cleared, opened, and with their counts.
+use mathlib.Core.Path.{_≡_, refl, sym, ap, _∙_, subst, subst₂}
+use mathlib.Core.List.{List, [], _∷_, append-nil}
+use Prim.Native.Nat.{ℕ, _+_, _*_, _^_, _≤_, _<_}
+use native.Mathlib.Nat.{le-antisymm}
+use native.Mathlib.Omega.{arith}
+use lib.ListN.{length, set, replicate, length-replicate}
+use lib.Seq.{drop-length}
+use Rattle.classes.specs.Table.{table, fresh}
+use Rattle.nodes.specs.Layout.{standing}
+use Rattle.closing.proofs.Beginning.{Clearing}
+use Rattle.types.specs.States.{state, entered, Opened}
+use Rattle.types.proofs.Begun.{opened-first}
+use Rattle.jobs.specs.Putting.{Recorded}
+use Rattle.tsarovima_c.specs.Lent.{tables, state-of, Sized, OpenedBy, Long, RecordedBy}
+
+-- a table cleared to its end is one repeated value
+pub all-cleared : {table₀ table : List ℕ} {i : ℕ} → Clearing table₀ (length table₀) table i → length table₀ ≤ i → table ≡ replicate (length table₀) 0
+all-cleared {table₀} {table} {i} inv end =
+    let last : i ≡ length table₀ = le-antisymm (inv .high) end in
+    inv .are ∙ rw (last, drop-length, append-nil)
+
+-- three counts stored
+three : (v : List ℕ) (e l k : ℕ) → length v ≡ 3 → set (set (set v 0 e) 1 l) 2 k ≡ e ∷ l ∷ k ∷ []
+three (a ∷ b ∷ c ∷ []) e l k h = refl
+three [] e l k h = absurd (omega (arith, h))
+three (a ∷ []) e l k h = absurd (omega (arith, h))
+three (a ∷ b ∷ []) e l k h = absurd (omega (arith, h))
+three (a ∷ b ∷ c ∷ d ∷ v) e l k h = absurd (omega (arith, h))
+
+-- cleared tables that were opened are a fresh state
+fresh-opened : (rows links numbers : ℕ) {p r s k l q t n : List ℕ} {e j kept : ℕ} → 33 + 8 * 1024 ≤ rows → rows < 2 ^ 16 → links ≡ 3 * rows → numbers ≡ 7 * 1024 → kept ≡ 0 →
+    table p r s k l q (replicate (3 * rows) 0) e j ≡ entered (fresh rows) standing → t ≡ replicate links 0 → n ≡ replicate numbers 0 →
+    (o : Opened 1024 (state (table p r s k l q t e j) n kept)) × (o .nodes ≡ [])
+fresh-opened rows links numbers {p} {r} {s} {k} {l} {q} {t} {n} {e} {j} {kept} wide small hl hn none is et en =
+    subst₂ (λ (x y : List ℕ). (o : Opened 1024 (state (table p r s k l q x e j) y kept)) × (o .nodes ≡ []))
+    (sym (et ∙ ap (λ (m : ℕ). replicate m 0) hl)) (sym (en ∙ ap (λ (m : ℕ). replicate m 0) hn))
+    (opened-first 1024 rows wide small none is)
+
+pub opened-by : {p₀ r₀ s₀ k₀ l₀ q₀ t₀ n₀ v₀ p₁ p r s k l q t n : List ℕ} {e j kept : ℕ} → Sized (tables p₀ r₀ s₀ k₀ l₀ q₀ t₀ n₀ v₀) → p₁ ≡ replicate (length p₀) 0 → kept ≡ 0 →
+    table p r s k l q (replicate (3 * length p₁) 0) e j ≡ entered (fresh (length p₁)) standing → t ≡ replicate (length t₀) 0 → n ≡ replicate (length n₀) 0 →
+    OpenedBy (tables p₀ r₀ s₀ k₀ l₀ q₀ t₀ n₀ v₀) 0 (tables p r s k l q t n (set (set (set v₀ 0 e) 1 j) 2 kept))
+opened-by {p₀} {r₀} {s₀} {k₀} {l₀} {q₀} {t₀} {n₀} {v₀} {p₁} {p} {r} {s} {k} {l} {q} {t} {n} {e} {j} {kept} sized clear none is et en =
+    let rows = sized .parent in
+    let long : length p₁ ≡ length p₀ = ap length clear ∙ length-replicate (length p₀) 0 in
+    let (o, nothing) = fresh-opened (length p₁) (length t₀) (length n₀) (omega (arith, long, rows)) (omega (arith, long, rows)) (omega (arith, long, rows, sized .trail)) (sized .nodes) none is et en in
+    subst (λ (v : List ℕ). OpenedBy (tables p₀ r₀ s₀ k₀ l₀ q₀ t₀ n₀ v₀) 0 (tables p r s k l q t n v)) (sym (three v₀ e j kept (sized .live)))
+    (OpenedBy.done sized o nothing)
+
+-- a record put, and the counts stored
+pub recorded-by : {p₀ r₀ s₀ k₀ l₀ q₀ t₀ n₀ v₀ p r s k l q t n work bytes listing listing′ answer answer′ : List ℕ} {o : Opened 1024 (state-of (tables p₀ r₀ s₀ k₀ l₀ q₀ t₀ n₀ v₀))} {e j kept : ℕ} →
+    Long (tables p₀ r₀ s₀ k₀ l₀ q₀ t₀ n₀ v₀) work listing bytes answer →
+    Recorded (state-of (tables p₀ r₀ s₀ k₀ l₀ q₀ t₀ n₀ v₀)) o bytes 0 listing answer 0 (state (table p r s k l q t e j) n kept) listing′ answer′ →
+    RecordedBy (tables p₀ r₀ s₀ k₀ l₀ q₀ t₀ n₀ v₀) o work bytes listing answer 0 (tables p r s k l q t n (set (set (set v₀ 0 e) 1 j) 2 kept)) listing′ answer′
+recorded-by {p₀} {r₀} {s₀} {k₀} {l₀} {q₀} {t₀} {n₀} {v₀} {p} {r} {s} {k} {l} {q} {t} {n} {work} {bytes} {listing} {listing′} {answer} {answer′} {o} {e} {j} {kept} long x =
+    subst (λ (v : List ℕ). RecordedBy (tables p₀ r₀ s₀ k₀ l₀ q₀ t₀ n₀ v₀) o work bytes listing answer 0 (tables p r s k l q t n v) listing′ answer′) (sym (three v₀ e j kept (long .1)))
+    (RecordedBy.done long x)
