@@ -27,7 +27,7 @@ extern "C" {
  * After 0 it has written eight bytes of answers for each record, and the listing of the last record of kind 65 (0, 0, 4, 4 if that
  * was refused, or if there was none). Bytes and numbers past these are as they were.
  *
- * Any bytes may be lent. It takes some 280 KiB of stack: see the README for the measured figure. */
+ * Any bytes may be lent. It takes some 276 KiB of stack (measured: see the README). */
 uint32_t tsarovima_job(const uint8_t *job, size_t job_len, uint8_t *answers, size_t answers_len, uint16_t *listing,
                        size_t listing_len);
 
@@ -70,7 +70,7 @@ uint32_t tsarovima_close(uint16_t *parent, size_t parent_len, uint16_t *rank, si
                          uint16_t *work, size_t work_len, uint8_t *answer, size_t answer_len, uint16_t *listing,
                          size_t listing_len);
 
-/* All that a host lends for the record calls, with the right lengths: 300 KiB. */
+/* All that a host lends for the record calls, with the right lengths: 281,646 bytes. */
 typedef struct {
     uint16_t parent[TSAROVIMA_ENTRIES];
     uint16_t rank[TSAROVIMA_ENTRIES];

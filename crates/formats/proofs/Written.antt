@@ -2,8 +2,8 @@
 use mathlib.Core.Path.{_≡_, sym, ap, _∙_}
 use mathlib.Core.Bool.{Bool, true, false, cond}
 use mathlib.Core.Logic.{if-pos, if-neg}
-use mathlib.Core.List.{List, [], _∷_, _++_}
-use Prim.Native.Nat.{ℕ, _+_, _*_, _/_, _%_, _^_, _≤_, _<_}
+use mathlib.Core.List.{List, _++_}
+use Prim.Native.Nat.{ℕ, _+_, _/_, _%_, _^_, _≤_, _<_}
 use native.Mathlib.Numerals.{add-one, add-two, add-three, add-four, add-five, add-six, add-seven}
 use native.Mathlib.Nat.{add-assoc}
 use native.Mathlib.Decide.{ℕ-discrete}

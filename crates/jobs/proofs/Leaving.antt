@@ -2,16 +2,16 @@
 use mathlib.Core.Path.{_≡_, refl, sym, ap, _∙_, subst}
 use mathlib.Core.Bool.{true}
 use mathlib.Core.List.{List, [], _∷_, _++_}
-use Prim.Native.Nat.{ℕ, _+_, _*_, _≤_, _<_}
+use Prim.Native.Nat.{ℕ, _+_, _≤_, _<_}
 use native.Mathlib.Omega.{arith}
 use lib.ListN.{length, getD, take, drop}
 use Rattle.nodes.specs.Layout.{built}
 use Rattle.nodes.specs.Records.{record-at}
 use Rattle.nodes.specs.declared.Node.{Node}
 use Rattle.nodes.specs.declared.Record.{Record}
-use Rattle.nodes.specs.declared.Record.the-variants.{Offer, TakeBack, Close, Malformed as Misshapen}
+use Rattle.nodes.specs.declared.Record.the-variants.{Close, Malformed as Misshapen}
 use Rattle.nodes.proofs.Asked.{Asked, asked}
-use Rattle.typing.specs.Listing.{TypeArrow, types-of, listing}
+use Rattle.typing.specs.Listing.{TypeArrow, listing}
 use Rattle.typing.proofs.Listed.{listing-long}
 use Rattle.types.specs.Answers.{Answered}
 use Rattle.types.specs.Calls.{Closing}
@@ -105,7 +105,7 @@ module _ {s : State} (o : Opened 1024 s) {kind : ℕ} {answer : Answer} {s′ : 
       let same = put .other malformed-is-no-closing in
       let none : kind ≡ 65 → after ≡ over no-listing before =
       λ e. subst (λ (a : Answer). after ≡ settled kind a between) (malformed-answer (put .called .answered)) is ∙ sym (settled-none kind Malformed between e refl)
-          ∙ ap (λ (l : List ℕ). no-listing ++ drop 4 l) same in
+      ∙ ap (λ (l : List ℕ). no-listing ++ drop 4 l) same in
       record {
         listed = [];
         lists = Lists.malformed;

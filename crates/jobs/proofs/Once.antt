@@ -31,8 +31,7 @@ pub recorded-once : {s s₁ s₂ : State} {o : Opened 1024 s} {bytes listed answ
     (s₁ ≡ s₂) × (answers₁ ≡ answers₂) × (((i : ℕ) → x .answer ≡ Endless i → ⊥) → listed₁ ≡ listed₂)
 recorded-once {bytes = bytes} {listed = listed} {answers = answers} {from = from} {to = to} x y =
     let (same, state) = called-once (x .called) (y .called) in
-    let lists = lists-once (x .leaves .lists) (y .leaves .lists) in
-    (
+    let lists = lists-once (x .leaves .lists) (y .leaves .lists) in (
       state,
       x .written ∙ ap (λ (a : Answer). take to answers ++ answer-bytes a ++ drop (to + 8) answers) same ∙ sym (y .written),
       λ ne. by-cases (ℕ-discrete (getD bytes from 0) 65)

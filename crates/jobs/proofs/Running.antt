@@ -2,7 +2,7 @@
 use mathlib.Core.Path.{_≡_, refl, sym, ap, _∙_, subst}
 use mathlib.Core.Logic.{ite, by-cases, if-pos, if-neg}
 use mathlib.Core.List.{List, [], _∷_, _++_}
-use Prim.Native.Nat.{ℕ, suc, _+_, _*_, _≤_, _<_}
+use Prim.Native.Nat.{ℕ, suc, _+_, _*_, _≤_}
 use native.Mathlib.Decide.{ℕ-discrete}
 use native.Mathlib.Numerals.{add-one}
 use native.Mathlib.Omega.{arith}
@@ -54,7 +54,7 @@ module _ (given : List Answer) (a : Answer) (lent answers : List ℕ) (n : ℕ) 
       let next : 8 * n + 8 ≡ 8 * suc n = omega arith in
       let past : drop (8 * n + 8) answers ≡ drop (8 * suc n) lent =
       ap (drop (8 * n + 8)) are ∙ ap (λ (k : ℕ). drop (k + 8) (all-bytes given ++ drop (8 * n) lent)) (sym long)
-          ∙ drop-append-add (all-bytes given) (drop (8 * n) lent) 8 ∙ drop-drop 8 (8 * n) lent ∙ ap (λ (k : ℕ). drop k lent) next in
+      ∙ drop-append-add (all-bytes given) (drop (8 * n) lent) 8 ∙ drop-drop 8 (8 * n) lent ∙ ap (λ (k : ℕ). drop k lent) next in
       ap (λ (l : List ℕ). l ++ answer-bytes a ++ drop (8 * n + 8) answers) front
       ∙ ap (λ (l : List ℕ). all-bytes given ++ answer-bytes a ++ l) past
       ∙ ap (λ (l : List ℕ). l ++ drop (8 * suc n) lent) (sym (all-more given a))

@@ -71,17 +71,7 @@ fn put(
             to,
         ),
         Record::Close => {
-            let answer = state::close(
-                parent,
-                shape,
-                kind,
-                left,
-                right,
-                nodes,
-                work,
-                listed,
-                live,
-            );
+            let answer = state::close(parent, shape, kind, left, right, nodes, work, listed, live);
             Step { answer, live }
         }
         Record::Malformed => Step {

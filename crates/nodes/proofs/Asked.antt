@@ -1,5 +1,5 @@
 -- What eight bytes can ask, by their kind: a proper node, a take-back, a closing of kind 65 alone; or they are malformed.
-use mathlib.Core.Path.{_≡_, refl, sym, ap, subst}
+use mathlib.Core.Path.{_≡_, refl, sym, subst}
 use mathlib.Core.Logic.{by-cases, if-pos, if-neg}
 use mathlib.Core.List.{List, [], _∷_}
 use Prim.Native.Nat.{ℕ, zero, suc, _+_, _≤_, _<_}

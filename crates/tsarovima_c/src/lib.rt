@@ -230,6 +230,18 @@ pub extern "C" fn tsarovima_close(
 {
     let bytes = [65, 0, 0, 0, 0, 0, 0, 0];
     tsarovima_record(
-        parent, rank, shape, kind, left, right, trail, nodes, live, work, &bytes, answer, listing,
+        parent,
+        rank,
+        shape,
+        kind,
+        left,
+        right,
+        trail,
+        nodes,
+        live,
+        work,
+        &bytes,
+        answer,
+        listing,
     )
 }

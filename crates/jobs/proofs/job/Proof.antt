@@ -110,8 +110,7 @@ run-requires : tie.Need-run-requires
 run-requires c κs =
     let opens = c .before .before .before .before .before .before .before .before .before .before .before .before .before .before .before .before .before .before .before .before .open in
     let clear = c .before .before .before .before .before .before .before .before .before .before .before .before .clear in
-    let ready = ready-at (told c) in
-    (
+    let ready = ready-at (told c) in (
       opened-first 1024 8225 (omega arith) (omega arith) (opens .ensures .0) (opens .ensures .1),
       (
         record {

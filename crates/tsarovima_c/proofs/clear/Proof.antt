@@ -54,4 +54,3 @@ clear-spec =
     loop-again
     same-length
     returns)
-

@@ -58,4 +58,3 @@ write-spec =
     write-two-requires-4
     same-length
     returns)
-

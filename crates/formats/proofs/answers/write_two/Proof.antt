@@ -39,4 +39,3 @@ write-two-spec =
     slice-write-bytes-2
     same-length
     returns)
-

@@ -84,4 +84,3 @@ judge-spec =
     returns-7
     returns-8
     returns-9)
-

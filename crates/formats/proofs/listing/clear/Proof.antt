@@ -34,4 +34,3 @@ clear-spec =
     slice-write-listed-4
     same-length
     returns)
-

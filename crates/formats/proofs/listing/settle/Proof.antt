@@ -27,4 +27,3 @@ pub settle-spec : {M : Type 1} → statement M
 settle-spec =
     tie.close
     (tie.spec returns found-types-requires returns-2 clear-requires same-length returns-3)
-

@@ -81,4 +81,3 @@ show-spec =
     loop-again
     same-length
     returns)
-

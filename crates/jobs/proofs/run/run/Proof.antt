@@ -8,7 +8,6 @@ use Rattle.classes.specs.Table.{table}
 use Rattle.types.specs.States.{state, Opened}
 use Rattle.jobs.specs.Putting.{Ran}
 use Rattle.jobs.proofs.Running.{ran-begins, ran-more}
-use borrow.Author.Needs.{needs}
 use Rattle.jobs.proofs.run.run.Statement.{statement}
 use Rattle.jobs.proofs.run.run.Tie as tie
 
@@ -41,8 +40,7 @@ put-bytes-requires : tie.Need-put-bytes-requires Inv-loop μ-loop
 put-bytes-requires c κs =
     let inv = c .before .before .before .before .before .before .before .before .before .before .before .before .loop .inv in
     let low = c .before .before .before .before .before .before .before .before .before .before .before .loop-test .taken in
-    let start = c .before .before .before .before .before .before .before .before .before .before .before .before .before .before .before .before .before .before .before .before .before .before .before .before .before in
-    (
+    let start = c .before .before .before .before .before .before .before .before .before .before .before .before .before .before .before .before .before .before .before .before .before .before .before .before .before in (
       inv .0 .0,
       (
         record {

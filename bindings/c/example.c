@@ -1,0 +1,46 @@
+/* One table for many clients: each offers its nodes, a bad program is refused, and taking back leaves the table as it was. */
+
+#include "tsarovima.h"
+#include <stdio.h>
+
+static tsarovima_tables tables;
+
+/* A record: kind, zero, a, b, zero, little-endian. */
+static void put(uint8_t kind, uint16_t a, uint16_t b)
+{
+    uint8_t record[8] = {kind, 0, a & 255, a >> 8, b & 255, b >> 8, 0, 0};
+    uint8_t answer[8];
+    if (tsarovima_tables_record(&tables, record, answer) != TSAROVIMA_DONE)
+        return;
+    printf("kind %u: code %u, first %u, second %u\n", kind, answer[0] | answer[1] << 8, answer[2] | answer[3] << 8,
+           answer[4] | answer[5] << 8 | answer[6] << 16 | (unsigned)answer[7] << 24);
+}
+
+enum { UNIT = 2, INJL = 3, COMP = 7, CASE = 8, WORD = 16, TAKE_BACK = 64 };
+
+int main(void)
+{
+    tsarovima_tables_open(&tables);
+
+    /* The first client's program clashes: rule 1. */
+    put(WORD, 0, 0);
+    put(COMP, 0, 0);
+    put(TAKE_BACK, 0, 0);
+
+    /* The second's is sound. */
+    put(UNIT, 0, 0);
+    put(CASE, 0, 0);
+
+    uint8_t answer[8];
+    if (tsarovima_tables_close(&tables, answer) == TSAROVIMA_DONE)
+        printf("closed: code %u, %u nodes, %u types\n", answer[0] | answer[1] << 8, tables.listing[0], tables.listing[1]);
+    for (int i = 0; i < 20; i++)
+        printf("%u%c", tables.listing[i], i == 19 ? '\n' : ' ');
+
+    /* A job of one record: unit. */
+    static const uint8_t job[24] = {1, 0, 0, 0, 1, 0, 0, 0, 16, 0, 0, 0, 24, 0, 0, 0, UNIT};
+    static uint8_t answers[8];
+    static uint16_t listing[TSAROVIMA_LISTING];
+    printf("job %u\n", (unsigned)tsarovima_job(job, sizeof job, answers, sizeof answers, listing, TSAROVIMA_LISTING));
+    return 0;
+}
