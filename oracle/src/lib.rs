@@ -18,6 +18,7 @@ pub mod dag;
 pub mod types;
 
 pub mod answer;
+pub mod bench;
 pub mod closing;
 pub mod counts;
 pub mod limit;
