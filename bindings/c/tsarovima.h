@@ -33,11 +33,13 @@ uint32_t tsarovima_job(const uint8_t *job, size_t job_len, uint8_t *answers, siz
 
 /* ---- record calls ----
  *
- * The tables are the host's. It must not write to them, copy parts of them over each other, or lend tables to tsarovima_record or
- * tsarovima_close that did not come from tsarovima_open and these calls: what the calls promise is proved for such tables alone,
- * and with others they may read and write outside the buffers. One set of tables serves one thread at a time.
+ * The tables are the host's: parent to live. It must not write to them, copy parts of them over each other, or lend tables to
+ * tsarovima_record or tsarovima_close that did not come from tsarovima_open and these calls, with the lengths that they were opened
+ * with: what the calls promise is proved for such tables alone, and with others they may read and write outside the buffers. One set
+ * of tables serves one thread at a time. Nothing has to be given back: a host that is done with the tables forgets them.
  *
- * The lengths below are looked at: a wrong one returns 1, and nothing was written. */
+ * A wrong length is answered with 1, and then nothing was written. tsarovima_open looks at every length. The other two look at parent,
+ * live and the buffers that are not tables; the lengths of rank to nodes belong to what the host must see to. */
 
 #define TSAROVIMA_ENTRIES 8225
 #define TSAROVIMA_TRAIL 24675
@@ -47,23 +49,32 @@ uint32_t tsarovima_job(const uint8_t *job, size_t job_len, uint8_t *answers, siz
 #define TSAROVIMA_DONE 0
 #define TSAROVIMA_WRONG_LENGTH 1
 
-/* Makes the tables a fresh state, whatever they hold: parent, rank, shape, kind, left and right of TSAROVIMA_ENTRIES numbers, trail
- * of TSAROVIMA_TRAIL, nodes of TSAROVIMA_NODES, live of 3. */
+/* Makes the tables a fresh state.
+ *
+ * Reads nothing: they may hold anything. Writes every number of parent, rank, shape, kind, left and right (TSAROVIMA_ENTRIES each),
+ * trail (TSAROVIMA_TRAIL), nodes (TSAROVIMA_NODES) and live (3: entries, links, nodes kept).
+ * Returns TSAROVIMA_DONE, or TSAROVIMA_WRONG_LENGTH if one of them is shorter or longer. */
 uint32_t tsarovima_open(uint16_t *parent, size_t parent_len, uint16_t *rank, size_t rank_len, uint16_t *shape, size_t shape_len,
                         uint16_t *kind, size_t kind_len, uint16_t *left, size_t left_len, uint16_t *right, size_t right_len,
                         uint16_t *trail, size_t trail_len, uint16_t *nodes, size_t nodes_len, uint16_t *live, size_t live_len);
 
-/* Puts the record in the first eight bytes of `record`, and writes its answer in the first eight of `answer`. A record of kind 65
- * writes its listing into `listing` (at least TSAROVIMA_LISTING numbers), or 0, 0, 4, 4 if it is refused; after code 5 the numbers
- * past these four are not as they were. Any other record leaves `listing` alone. `work` has at least TSAROVIMA_WORK numbers; what it
- * holds before does not matter, and after a call it means nothing. */
+/* Puts a record to the state: an offer, a take-back, or (kind 65) a closing.
+ *
+ * Reads the tables and the first eight bytes of `record`, which may be any bytes. Writes the answer in the first eight bytes of
+ * `answer`, and the tables, which a refused record leaves as they were. Kind 65 writes its listing into `listing`, or 0, 0, 4, 4 if it
+ * is refused; after code 5 the numbers past these four are not as they were. Any other record leaves `listing` alone. Numbers and bytes
+ * past these are as they were. What `work` holds before does not matter, and after a call it means nothing.
+ * Returns TSAROVIMA_DONE, whatever the answer's code is, or TSAROVIMA_WRONG_LENGTH if parent has not TSAROVIMA_ENTRIES numbers or live
+ * not 3, if work has fewer than TSAROVIMA_WORK or listing fewer than TSAROVIMA_LISTING, or record or answer fewer than 8 bytes.
+ * The host must see to it that the tables came from tsarovima_open and these calls. */
 uint32_t tsarovima_record(uint16_t *parent, size_t parent_len, uint16_t *rank, size_t rank_len, uint16_t *shape,
                           size_t shape_len, uint16_t *kind, size_t kind_len, uint16_t *left, size_t left_len, uint16_t *right,
                           size_t right_len, uint16_t *trail, size_t trail_len, uint16_t *nodes, size_t nodes_len,
                           uint16_t *live, size_t live_len, uint16_t *work, size_t work_len, const uint8_t *record,
                           size_t record_len, uint8_t *answer, size_t answer_len, uint16_t *listing, size_t listing_len);
 
-/* The record of kind 65: the same with no record to lend. */
+/* Closes: the record of kind 65, with no record to lend. It reads, writes, returns and needs what tsarovima_record does; the tables are
+ * as they were after it. */
 uint32_t tsarovima_close(uint16_t *parent, size_t parent_len, uint16_t *rank, size_t rank_len, uint16_t *shape, size_t shape_len,
                          uint16_t *kind, size_t kind_len, uint16_t *left, size_t left_len, uint16_t *right, size_t right_len,
                          uint16_t *trail, size_t trail_len, uint16_t *nodes, size_t nodes_len, uint16_t *live, size_t live_len,
@@ -85,7 +96,8 @@ typedef struct {
     uint16_t listing[TSAROVIMA_LISTING];
 } tsarovima_tables;
 
-/* Opens; puts one record of eight bytes and has its answer in eight; closes. t->listing is the listing after a closing. */
+/* The three calls with all lengths right, so each returns TSAROVIMA_DONE. What is left for the host to see to: tables are opened before
+ * the other two are called, and nobody else writes to them. After a closing t->listing is the listing. */
 static inline uint32_t tsarovima_tables_open(tsarovima_tables *t)
 {
     return tsarovima_open(t->parent, TSAROVIMA_ENTRIES, t->rank, TSAROVIMA_ENTRIES, t->shape, TSAROVIMA_ENTRIES, t->kind,
