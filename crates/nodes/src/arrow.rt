@@ -1,18 +1,17 @@
 // One rule for each combinator, after the Rust's arrow.rs: what the node adds to the table, on numbers alone. `e` is the number
-// of the next entry; `s` and `t` are the arrows of the first and the second child. Each function is a row of document 01's
-// table: the new entries in order, the rules in order, the node's own arrow. No table is touched here.
+// of the next entry; `s` and `t` are the arrows of the first and the second child. Each combinator is a row of document 01's
+// table: the new entries in order, the rules in order, the node's own arrow. Entries and rules are worked out one at a time, when
+// they are asked for, so a node pays for no more than it adds. No table is touched here.
 
 use super::Node;
 use classes::Bound;
 ghost use mathlib.Core.Path.{_≡_};
 ghost use mathlib.Core.List.{[], _∷_};
-ghost use Prim.Native.Nat.{ℕ, _+_, _^_, _≤_, _<_};
-ghost use lib.ListN.{getD};
+ghost use Prim.Native.Nat.{_+_, _^_, _<_};
+ghost use lib.ListN.{length, getD};
 ghost use Rattle.classes.specs.declared.Bound.the-variants.{Free, Sum, Product};
-ghost use Rattle.nodes.specs.Layout.{says, adds, arrow, Proper};
-ghost use Rattle.nodes.specs.Meant.{meant, meant-needs, meant-rule};
-ghost use Rattle.nodes.specs.declared.Node.the-variants.{Iden, InjL, InjR, Take, Drop, Comp, Case, AssertL, AssertR, Pair, Disconnect, DisconnectHole, Witness, Fail, Word};
-ghost use Rattle.nodes.specs.declared.Node.the-variants.{Unit as UnitNode};
+ghost use Rattle.nodes.specs.Layout.{says, arrow, case-entries, power};
+ghost use Rattle.nodes.specs.Meant.{Countable, meant, meant-rule};
 
 // A node's source and target, as entries.
 pub struct Arrow {
@@ -28,33 +27,12 @@ pub struct Rule {
     pub other: u16,
 }
 
-// At most eight new entries; `count` of them are meant.
-pub struct Entries {
-    pub count: u16,
-    pub b0: Bound,
-    pub b1: Bound,
-    pub b2: Bound,
-    pub b3: Bound,
-    pub b4: Bound,
-    pub b5: Bound,
-    pub b6: Bound,
-    pub b7: Bound,
-}
-
-// At most four rules; `count` of them are meant.
-pub struct Needs {
-    pub count: u16,
-    pub r0: Rule,
-    pub r1: Rule,
-    pub r2: Rule,
-    pub r3: Rule,
-}
-
-// What a node adds.
+// A node with its children's arrows and the number of the next entry: all that what it adds depends on.
 pub struct Adds {
-    pub entries: Entries,
-    pub needs: Needs,
-    pub gives: Arrow,
+    pub node: Node,
+    pub s: Arrow,
+    pub t: Arrow,
+    pub e: u16,
 }
 
 // The standing entries: 1, and 2^256.
@@ -63,7 +41,7 @@ const ONE: u16 = 0;
 const POWER_256: u16 = 9;
 
 fn says(number: u16, one: u16, other: u16) -> Rule
-    ensures { λ r. ⌜ r ≡ record { number = number; one = one; other = other } ⌝ }
+    ensures { λ r. ⌜ meant-rule r ≡ says number one other ⌝ }
 {
     Rule { number, one, other }
 }
@@ -74,328 +52,236 @@ fn from_to(source: u16, target: u16) -> Arrow
     Arrow { source, target }
 }
 
-fn two_entries(count: u16, b0: Bound, b1: Bound) -> Entries
-    ensures { λ r. ⌜ r ≡ record { count = count; b0 = b0; b1 = b1; b2 = Free; b3 = Free; b4 = Free; b5 = Free; b6 = Free; b7 = Free } ⌝ }
+// How many entries a node adds.
+pub fn entry_count(row: Adds) -> u16
+    ensures { λ r. ⌜ r ≡ length (meant row .entries) ⌝ }
 {
-    Entries {
-        count,
-        b0,
-        b1,
-        b2: Bound::Free,
-        b3: Bound::Free,
-        b4: Bound::Free,
-        b5: Bound::Free,
-        b6: Bound::Free,
-        b7: Bound::Free,
+    let node = row.node;
+    match node {
+        Node::Iden => 1,
+        Node::Unit => 1,
+        Node::InjL(_) => 2,
+        Node::InjR(_) => 2,
+        Node::Take(_) => 2,
+        Node::Drop(_) => 2,
+        Node::Comp(_, _) => 0,
+        Node::Case(_, _) => 8,
+        Node::AssertL(_) => 7,
+        Node::AssertR(_) => 7,
+        Node::Pair(_, _) => 1,
+        Node::Disconnect(_, _) => 5,
+        Node::DisconnectHole(_) => 7,
+        Node::Witness => 2,
+        Node::Fail => 2,
+        Node::Word(_) => 0,
     }
 }
 
-fn two_rules(count: u16, r0: Rule, r1: Rule) -> Needs
-    ensures { λ r. ⌜ r ≡ record { count = count; r0 = r0; r1 = r1; r2 = record { number = 0; one = 0; other = 0 }; r3 = record { number = 0; one = 0; other = 0 } } ⌝ }
+// A, and then a bound.
+fn free_then(b: Bound, i: u16) -> Bound
+    requires { ⌜ i < 2 ⌝ }
+    ensures { λ r. ⌜ r ≡ getD (Free ∷ b ∷ []) i Free ⌝ }
 {
-    Needs {
-        count,
-        r0,
-        r1,
-        r2: says(0, 0, 0),
-        r3: says(0, 0, 0),
-    }
-}
-
-fn no_rules() -> Needs
-    ensures { λ r. ⌜ meant-needs r ≡ [] ⌝ }
-{
-    two_rules(0, says(0, 0, 0), says(0, 0, 0))
-}
-
-fn row(entries: Entries, needs: Needs, source: u16, target: u16) -> Adds
-    ensures { λ r. ⌜ r ≡ record { entries = entries; needs = needs; gives = arrow source target } ⌝ }
-{
-    Adds {
-        entries,
-        needs,
-        gives: from_to(source, target),
-    }
-}
-
-fn iden(e: u16) -> Adds
-    ensures { λ r. ⌜ ((s t : Arrow) → meant r ≡ adds Iden s t e) ⌝ }
-{
-    row(two_entries(1, Bound::Free, Bound::Free), no_rules(), e, e)
-}
-
-fn unit(e: u16) -> Adds
-    ensures { λ r. ⌜ ((s t : Arrow) → meant r ≡ adds UnitNode s t e) ⌝ }
-{
-    row(two_entries(1, Bound::Free, Bound::Free), no_rules(), e, ONE)
-}
-
-fn injl(s: Arrow, e: u16) -> Adds
-    requires { ⌜ e + 8 < 2 ^ 16 ⌝ }
-    ensures { λ r. ⌜ ((i : ℕ) (t : Arrow) → meant r ≡ adds (InjL i) s t e) ⌝ }
-{
-    row(
-        two_entries(2, Bound::Free, Bound::Sum(s.target, e)),
-        no_rules(),
-        s.source,
-        e + 1,
-    )
-}
-
-fn injr(s: Arrow, e: u16) -> Adds
-    requires { ⌜ e + 8 < 2 ^ 16 ⌝ }
-    ensures { λ r. ⌜ ((i : ℕ) (t : Arrow) → meant r ≡ adds (InjR i) s t e) ⌝ }
-{
-    row(
-        two_entries(2, Bound::Free, Bound::Sum(e, s.target)),
-        no_rules(),
-        s.source,
-        e + 1,
-    )
-}
-
-fn take(s: Arrow, e: u16) -> Adds
-    requires { ⌜ e + 8 < 2 ^ 16 ⌝ }
-    ensures { λ r. ⌜ ((i : ℕ) (t : Arrow) → meant r ≡ adds (Take i) s t e) ⌝ }
-{
-    row(
-        two_entries(2, Bound::Free, Bound::Product(s.source, e)),
-        no_rules(),
-        e + 1,
-        s.target,
-    )
-}
-
-fn drop(s: Arrow, e: u16) -> Adds
-    requires { ⌜ e + 8 < 2 ^ 16 ⌝ }
-    ensures { λ r. ⌜ ((i : ℕ) (t : Arrow) → meant r ≡ adds (Drop i) s t e) ⌝ }
-{
-    row(
-        two_entries(2, Bound::Free, Bound::Product(e, s.source)),
-        no_rules(),
-        e + 1,
-        s.target,
-    )
-}
-
-fn comp(s: Arrow, t: Arrow) -> Adds
-    ensures { λ r. ⌜ ((i j e : ℕ) → meant r ≡ adds (Comp i j) s t e) ⌝ }
-{
-    row(
-        two_entries(0, Bound::Free, Bound::Free),
-        two_rules(1, says(1, s.target, t.source), says(0, 0, 0)),
-        s.source,
-        t.target,
-    )
+    if i == 0 { Bound::Free } else { b }
 }
 
 // A, B, C, D at e to e + 3, A + B at e + 4, (A + B) × C at e + 5; then the products that the halves need.
-fn case_entries(count: u16, e: u16, b6: Bound, b7: Bound) -> Entries
-    requires { ⌜ e + 8 < 2 ^ 16 ⌝ }
-    ensures { λ r. ⌜ r ≡ record { count = count; b0 = Free; b1 = Free; b2 = Free; b3 = Free; b4 = Sum e (e + 1); b5 = Product (e + 4) (e + 2); b6 = b6; b7 = b7 } ⌝ }
+fn case_entry(e: u16, b6: Bound, b7: Bound, i: u16) -> Bound
+    requires { ⌜ (e + 8 < 2 ^ 16) × (i < 8) ⌝ }
+    ensures { λ r. ⌜ r ≡ getD (case-entries e (b6 ∷ b7 ∷ [])) i Free ⌝ }
 {
-    Entries {
-        count,
-        b0: Bound::Free,
-        b1: Bound::Free,
-        b2: Bound::Free,
-        b3: Bound::Free,
-        b4: Bound::Sum(e, e + 1),
-        b5: Bound::Product(e + 4, e + 2),
-        b6,
-        b7,
+    match i {
+        0 => Bound::Free,
+        1 => Bound::Free,
+        2 => Bound::Free,
+        3 => Bound::Free,
+        4 => Bound::Sum(e, e + 1),
+        5 => Bound::Product(e + 4, e + 2),
+        6 => b6,
+        _ => b7,
     }
-}
-
-fn case(s: Arrow, t: Arrow, e: u16) -> Adds
-    requires { ⌜ e + 8 < 2 ^ 16 ⌝ }
-    ensures { λ r. ⌜ ((i j : ℕ) → meant r ≡ adds (Case i j) s t e) ⌝ }
-{
-    let halves = Needs {
-        count: 4,
-        r0: says(3, s.source, e + 6),
-        r1: says(0, e + 3, s.target),
-        r2: says(4, t.source, e + 7),
-        r3: says(5, e + 3, t.target),
-    };
-    row(
-        case_entries(8, e, Bound::Product(e, e + 2), Bound::Product(e + 1, e + 2)),
-        halves,
-        e + 5,
-        e + 3,
-    )
-}
-
-fn assertl(s: Arrow, e: u16) -> Adds
-    requires { ⌜ e + 8 < 2 ^ 16 ⌝ }
-    ensures { λ r. ⌜ ((i : ℕ) (t : Arrow) → meant r ≡ adds (AssertL i) s t e) ⌝ }
-{
-    row(
-        case_entries(7, e, Bound::Product(e, e + 2), Bound::Free),
-        two_rules(2, says(3, s.source, e + 6), says(0, e + 3, s.target)),
-        e + 5,
-        e + 3,
-    )
-}
-
-fn assertr(s: Arrow, e: u16) -> Adds
-    requires { ⌜ e + 8 < 2 ^ 16 ⌝ }
-    ensures { λ r. ⌜ ((i : ℕ) (t : Arrow) → meant r ≡ adds (AssertR i) s t e) ⌝ }
-{
-    row(
-        case_entries(7, e, Bound::Product(e + 1, e + 2), Bound::Free),
-        two_rules(2, says(4, s.source, e + 6), says(0, e + 3, s.target)),
-        e + 5,
-        e + 3,
-    )
-}
-
-fn pair(s: Arrow, t: Arrow, e: u16) -> Adds
-    requires { ⌜ e + 8 < 2 ^ 16 ⌝ }
-    ensures { λ r. ⌜ ((i j : ℕ) → meant r ≡ adds (Pair i j) s t e) ⌝ }
-{
-    row(
-        two_entries(1, Bound::Product(s.target, t.target), Bound::Free),
-        two_rules(1, says(2, s.source, t.source), says(0, 0, 0)),
-        s.source,
-        e,
-    )
 }
 
 // A and B at e and e + 1; then 2^256 × A, B × source t and B × target t.
-fn disconnect(s: Arrow, t: Arrow, e: u16) -> Adds
-    requires { ⌜ e + 8 < 2 ^ 16 ⌝ }
-    ensures { λ r. ⌜ ((i j : ℕ) → meant r ≡ adds (Disconnect i j) s t e) ⌝ }
+fn disconnect_entry(e: u16, t: Arrow, i: u16) -> Bound
+    requires { ⌜ (e + 8 < 2 ^ 16) × (i < 5) ⌝ }
+    ensures { λ r. ⌜ r ≡ getD (Free ∷ Free ∷ Product (power 8) e ∷ Product (e + 1) (t .source) ∷ Product (e + 1) (t .target) ∷ []) i Free ⌝ }
 {
-    let five = Entries {
-        count: 5,
-        b0: Bound::Free,
-        b1: Bound::Free,
-        b2: Bound::Product(POWER_256, e),
-        b3: Bound::Product(e + 1, t.source),
-        b4: Bound::Product(e + 1, t.target),
-        b5: Bound::Free,
-        b6: Bound::Free,
-        b7: Bound::Free,
-    };
-    row(
-        five,
-        two_rules(2, says(6, s.source, e + 2), says(7, s.target, e + 3)),
-        e,
-        e + 4,
-    )
+    match i {
+        0 => Bound::Free,
+        1 => Bound::Free,
+        2 => Bound::Product(POWER_256, e),
+        3 => Bound::Product(e + 1, t.source),
+        _ => Bound::Product(e + 1, t.target),
+    }
 }
 
 // As disconnect, with a free source and target, at e + 2 and e + 3, for the child that is not there.
-fn disconnect_hole(s: Arrow, e: u16) -> Adds
-    requires { ⌜ e + 8 < 2 ^ 16 ⌝ }
-    ensures { λ r. ⌜ ((i : ℕ) (t : Arrow) → meant r ≡ adds (DisconnectHole i) s t e) ⌝ }
+fn hole_entry(e: u16, i: u16) -> Bound
+    requires { ⌜ (e + 8 < 2 ^ 16) × (i < 7) ⌝ }
+    ensures { λ r. ⌜ r ≡ getD (Free ∷ Free ∷ Free ∷ Free ∷ Product (power 8) e ∷ Product (e + 1) (e + 2) ∷ Product (e + 1) (e + 3) ∷ []) i Free ⌝ }
 {
-    let seven = Entries {
-        count: 7,
-        b0: Bound::Free,
-        b1: Bound::Free,
-        b2: Bound::Free,
-        b3: Bound::Free,
-        b4: Bound::Product(POWER_256, e),
-        b5: Bound::Product(e + 1, e + 2),
-        b6: Bound::Product(e + 1, e + 3),
-        b7: Bound::Free,
-    };
-    row(
-        seven,
-        two_rules(2, says(6, s.source, e + 4), says(7, s.target, e + 5)),
-        e,
-        e + 6,
-    )
-}
-
-fn witness(e: u16) -> Adds
-    requires { ⌜ e + 8 < 2 ^ 16 ⌝ }
-    ensures { λ r. ⌜ ((s t : Arrow) → meant r ≡ adds Witness s t e) ⌝ }
-{
-    row(
-        two_entries(2, Bound::Free, Bound::Free),
-        no_rules(),
-        e,
-        e + 1,
-    )
-}
-
-fn fail(e: u16) -> Adds
-    requires { ⌜ e + 8 < 2 ^ 16 ⌝ }
-    ensures { λ r. ⌜ ((s t : Arrow) → meant r ≡ adds Fail s t e) ⌝ }
-{
-    row(
-        two_entries(2, Bound::Free, Bound::Free),
-        no_rules(),
-        e,
-        e + 1,
-    )
-}
-
-fn word(n: u16) -> Adds
-    requires { ⌜ n ≤ 31 ⌝ }
-    ensures { λ r. ⌜ ((s t : Arrow) (e : ℕ) → meant r ≡ adds (Word n) s t e) ⌝ }
-{
-    row(
-        two_entries(0, Bound::Free, Bound::Free),
-        no_rules(),
-        ONE,
-        n + 1,
-    )
-}
-
-// What a node adds, with the arrows of its first and its second child.
-pub fn adds_of(n: Node, s: Arrow, t: Arrow, e: u16) -> Adds
-    requires { ⌜ (e + 8 < 2 ^ 16) × Proper n ⌝ }
-    ensures { λ r. ⌜ meant r ≡ adds n s t e ⌝ }
-{
-    match n {
-        Node::Iden => iden(e),
-        Node::Unit => unit(e),
-        Node::InjL(_) => injl(s, e),
-        Node::InjR(_) => injr(s, e),
-        Node::Take(_) => take(s, e),
-        Node::Drop(_) => drop(s, e),
-        Node::Comp(_, _) => comp(s, t),
-        Node::Case(_, _) => case(s, t, e),
-        Node::AssertL(_) => assertl(s, e),
-        Node::AssertR(_) => assertr(s, e),
-        Node::Pair(_, _) => pair(s, t, e),
-        Node::Disconnect(_, _) => disconnect(s, t, e),
-        Node::DisconnectHole(_) => disconnect_hole(s, e),
-        Node::Witness => witness(e),
-        Node::Fail => fail(e),
-        Node::Word(n) => word(n),
+    match i {
+        0 => Bound::Free,
+        1 => Bound::Free,
+        2 => Bound::Free,
+        3 => Bound::Free,
+        4 => Bound::Product(POWER_256, e),
+        5 => Bound::Product(e + 1, e + 2),
+        _ => Bound::Product(e + 1, e + 3),
     }
 }
 
-// The i-th new entry's bound, and the i-th rule.
-pub fn entry_at(list: Entries, i: u16) -> Bound
-    requires { ⌜ i < 8 ⌝ }
-    ensures { λ r. ⌜ r ≡ getD (list .b0 ∷ list .b1 ∷ list .b2 ∷ list .b3 ∷ list .b4 ∷ list .b5 ∷ list .b6 ∷ list .b7 ∷ []) i Free ⌝ }
+// The bound of a node's i-th new entry.
+pub fn entry_at(row: Adds, i: u16) -> Bound
+    requires { ⌜ Countable row × (i < length (meant row .entries)) ⌝ }
+    ensures { λ r. ⌜ r ≡ getD (meant row .entries) i Free ⌝ }
 {
-    match i {
-        0 => list.b0,
-        1 => list.b1,
-        2 => list.b2,
-        3 => list.b3,
-        4 => list.b4,
-        5 => list.b5,
-        6 => list.b6,
-        _ => list.b7,
+    let node = row.node;
+    let s = row.s;
+    let t = row.t;
+    let e = row.e;
+    match node {
+        Node::Iden => Bound::Free,
+        Node::Unit => Bound::Free,
+        Node::InjL(_) => free_then(Bound::Sum(s.target, e), i),
+        Node::InjR(_) => free_then(Bound::Sum(e, s.target), i),
+        Node::Take(_) => free_then(Bound::Product(s.source, e), i),
+        Node::Drop(_) => free_then(Bound::Product(e, s.source), i),
+        Node::Comp(_, _) => Bound::Free,
+        Node::Case(_, _) => case_entry(
+            e,
+            Bound::Product(e, e + 2),
+            Bound::Product(e + 1, e + 2),
+            i,
+        ),
+        Node::AssertL(_) => case_entry(e, Bound::Product(e, e + 2), Bound::Free, i),
+        Node::AssertR(_) => case_entry(e, Bound::Product(e + 1, e + 2), Bound::Free, i),
+        Node::Pair(_, _) => Bound::Product(s.target, t.target),
+        Node::Disconnect(_, _) => disconnect_entry(e, t, i),
+        Node::DisconnectHole(_) => hole_entry(e, i),
+        Node::Witness => Bound::Free,
+        Node::Fail => Bound::Free,
+        Node::Word(_) => Bound::Free,
     }
 }
 
-pub fn rule_at(list: Needs, i: u16) -> Rule
-    requires { ⌜ i < 4 ⌝ }
-    ensures { λ r. ⌜ meant-rule r ≡ getD (meant-rule (list .r0) ∷ meant-rule (list .r1) ∷ meant-rule (list .r2) ∷ meant-rule (list .r3) ∷ []) i (says 0 0 0) ⌝ }
+// How many rules a node has.
+pub fn rule_count(row: Adds) -> u16
+    ensures { λ r. ⌜ r ≡ length (meant row .needs) ⌝ }
+{
+    let node = row.node;
+    match node {
+        Node::Iden => 0,
+        Node::Unit => 0,
+        Node::InjL(_) => 0,
+        Node::InjR(_) => 0,
+        Node::Take(_) => 0,
+        Node::Drop(_) => 0,
+        Node::Comp(_, _) => 1,
+        Node::Case(_, _) => 4,
+        Node::AssertL(_) => 2,
+        Node::AssertR(_) => 2,
+        Node::Pair(_, _) => 1,
+        Node::Disconnect(_, _) => 2,
+        Node::DisconnectHole(_) => 2,
+        Node::Witness => 0,
+        Node::Fail => 0,
+        Node::Word(_) => 0,
+    }
+}
+
+// source s = A × C, D = target s, source t = B × C, D = target t.
+fn case_rule(s: Arrow, t: Arrow, e: u16, i: u16) -> Rule
+    requires { ⌜ (e + 8 < 2 ^ 16) × (i < 4) ⌝ }
+    ensures { λ r. ⌜ meant-rule r ≡ getD (says 3 (s .source) (e + 6) ∷ says 0 (e + 3) (s .target) ∷ says 4 (t .source) (e + 7) ∷ says 5 (e + 3) (t .target) ∷ []) i (says 0 0 0) ⌝ }
 {
     match i {
-        0 => list.r0,
-        1 => list.r1,
-        2 => list.r2,
-        _ => list.r3,
+        0 => says(3, s.source, e + 6),
+        1 => says(0, e + 3, s.target),
+        2 => says(4, t.source, e + 7),
+        _ => says(5, e + 3, t.target),
+    }
+}
+
+// The half of one child: its source is the half's product, and D is its target.
+fn half_rule(number: u16, s: Arrow, e: u16, i: u16) -> Rule
+    requires { ⌜ (e + 8 < 2 ^ 16) × (i < 2) ⌝ }
+    ensures { λ r. ⌜ meant-rule r ≡ getD (says number (s .source) (e + 6) ∷ says 0 (e + 3) (s .target) ∷ []) i (says 0 0 0) ⌝ }
+{
+    if i == 0 {
+        says(number, s.source, e + 6)
+    } else {
+        says(0, e + 3, s.target)
+    }
+}
+
+// source s = 2^256 × A and target s = B × C; the products are the entries `first` and `second`.
+fn disconnect_rule(s: Arrow, first: u16, second: u16, i: u16) -> Rule
+    requires { ⌜ i < 2 ⌝ }
+    ensures { λ r. ⌜ meant-rule r ≡ getD (says 6 (s .source) first ∷ says 7 (s .target) second ∷ []) i (says 0 0 0) ⌝ }
+{
+    if i == 0 {
+        says(6, s.source, first)
+    } else {
+        says(7, s.target, second)
+    }
+}
+
+// A node's i-th rule.
+pub fn rule_at(row: Adds, i: u16) -> Rule
+    requires { ⌜ Countable row × (i < length (meant row .needs)) ⌝ }
+    ensures { λ r. ⌜ meant-rule r ≡ getD (meant row .needs) i (says 0 0 0) ⌝ }
+{
+    let node = row.node;
+    let s = row.s;
+    let t = row.t;
+    let e = row.e;
+    match node {
+        Node::Iden => says(0, 0, 0),
+        Node::Unit => says(0, 0, 0),
+        Node::InjL(_) => says(0, 0, 0),
+        Node::InjR(_) => says(0, 0, 0),
+        Node::Take(_) => says(0, 0, 0),
+        Node::Drop(_) => says(0, 0, 0),
+        Node::Comp(_, _) => says(1, s.target, t.source),
+        Node::Case(_, _) => case_rule(s, t, e, i),
+        Node::AssertL(_) => half_rule(3, s, e, i),
+        Node::AssertR(_) => half_rule(4, s, e, i),
+        Node::Pair(_, _) => says(2, s.source, t.source),
+        Node::Disconnect(_, _) => disconnect_rule(s, e + 2, e + 3, i),
+        Node::DisconnectHole(_) => disconnect_rule(s, e + 4, e + 5, i),
+        Node::Witness => says(0, 0, 0),
+        Node::Fail => says(0, 0, 0),
+        Node::Word(_) => says(0, 0, 0),
+    }
+}
+
+// A node's own arrow.
+pub fn gives(row: Adds) -> Arrow
+    requires { ⌜ Countable row ⌝ }
+    ensures { λ r. ⌜ r ≡ meant row .gives ⌝ }
+{
+    let node = row.node;
+    let s = row.s;
+    let t = row.t;
+    let e = row.e;
+    match node {
+        Node::Iden => from_to(e, e),
+        Node::Unit => from_to(e, ONE),
+        Node::InjL(_) => from_to(s.source, e + 1),
+        Node::InjR(_) => from_to(s.source, e + 1),
+        Node::Take(_) => from_to(e + 1, s.target),
+        Node::Drop(_) => from_to(e + 1, s.target),
+        Node::Comp(_, _) => from_to(s.source, t.target),
+        Node::Case(_, _) => from_to(e + 5, e + 3),
+        Node::AssertL(_) => from_to(e + 5, e + 3),
+        Node::AssertR(_) => from_to(e + 5, e + 3),
+        Node::Pair(_, _) => from_to(s.source, e),
+        Node::Disconnect(_, _) => from_to(e, e + 4),
+        Node::DisconnectHole(_) => from_to(e, e + 6),
+        Node::Witness => from_to(e, e + 1),
+        Node::Fail => from_to(e, e + 1),
+        Node::Word(n) => from_to(ONE, n + 1),
     }
 }

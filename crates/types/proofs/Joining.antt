@@ -2,12 +2,12 @@
 use mathlib.Core.Path.{_≡_, refl, sym, ap, _∙_, subst}
 use mathlib.Core.List.{List, [], _∷_, List·Memᴰ}
 use mathlib.Core.List.List·Memᴰ.{List·Memᴰ·head, List·Memᴰ·tail}
-use Prim.Native.Nat.{ℕ, suc, _+_, _-_, _*_, _^_, _≤_, _<_, min}
+use Prim.Native.Nat.{ℕ, suc, _+_, _-_, _*_, _^_, _≤_, _<_}
 use native.Mathlib.Numerals.{add-one}
 use native.Mathlib.Nat.{zero-add}
 use native.Mathlib.Omega.{arith}
-use lib.ListN.{length, getD, drop, length-take}
-use lib.Seq.{drop-cons, drop-length, getD-take}
+use lib.ListN.{length, getD, drop}
+use lib.Seq.{drop-cons, drop-length}
 use Rattle.classes.specs.Forced.{equal}
 use Rattle.classes.specs.Table.{Table, table, limit}
 use Rattle.classes.specs.Merging.{Verdict, Merges}
@@ -21,26 +21,10 @@ use Rattle.classes.specs.Forest.{Forest}
 use Rattle.classes.proofs.Closing.{made-good}
 use Rattle.classes.proofs.GivenBack.{run-forest}
 use Rattle.nodes.specs.Layout.{Numbered, says}
-use Rattle.nodes.specs.Meant.{meant-rule, meant-needs}
 use Rattle.types.specs.States.{Meets, Stops}
 use Rattle.types.specs.States.Meets.{done, next}
 use Rattle.types.specs.States.Stops.{here as stops-here, later}
 use Rattle.types.specs.Applying.{Named, Meetable}
-use Rattle.nodes.specs.declared.arrow.Needs.{Needs}
-use Rattle.nodes.specs.declared.arrow.Rule.{Rule}
-
--- as many rules as the count says, but never more than four
-pub needs-count : (l : Needs) → length (meant-needs l) ≡ min (l .count) 4
-needs-count l = length-take (l .count) (meant-rule (l .r0) ∷ meant-rule (l .r1) ∷ meant-rule (l .r2) ∷ meant-rule (l .r3) ∷ [])
-
--- the rule whose turn it is, as the code reads it
-pub need-read : (l : Needs) (i : ℕ) (r : Rule) → i < length (meant-needs l) →
-    meant-rule r ≡ getD (meant-rule (l .r0) ∷ meant-rule (l .r1) ∷ meant-rule (l .r2) ∷ meant-rule (l .r3) ∷ []) i (says 0 0 0) →
-    meant-rule r ≡ getD (meant-needs l) i (says 0 0 0)
-need-read l i r h is =
-    let few = needs-count l in
-    let below : i < l .count = omega arith in
-    is ∙ sym (getD-take (l .count) (meant-rule (l .r0) ∷ meant-rule (l .r1) ∷ meant-rule (l .r2) ∷ meant-rule (l .r3) ∷ []) i (says 0 0 0) below)
 
 getD-mem : (rs : List Numbered) (i : ℕ) → i < length rs → List·Memᴰ (getD rs i (says 0 0 0)) rs
 getD-mem [] i h = absurd (omega arith)

@@ -20,19 +20,17 @@ use nodes::Node;
 use nodes::arrow;
 use nodes::arrow::Adds;
 use nodes::arrow::Arrow;
-use nodes::arrow::Entries;
-use nodes::arrow::Needs;
 ghost use mathlib.Core.Path.{_≡_};
 ghost use mathlib.Core.Bool.{true, false};
 ghost use mathlib.Core.List.{List};
-ghost use Prim.Native.Nat.{ℕ, _+_, _*_, _^_, _≤_, _<_, min};
+ghost use Prim.Native.Nat.{ℕ, _+_, _*_, _^_, _≤_, _<_};
 ghost use lib.ListN.{length, getD, replicate};
 ghost use Rattle.classes.specs.Table.{table, fresh};
 ghost use Rattle.classes.specs.Promises.{made-links};
 ghost use Rattle.classes.specs.declared.Bound.the-variants.{Free};
 ghost use Rattle.nodes.specs.Layout.{children, standing, Proper};
 ghost use Rattle.nodes.specs.Layout.{arrow as from-to};
-ghost use Rattle.nodes.specs.Meant.{meant, meant-entries, meant-needs};
+ghost use Rattle.nodes.specs.Meant.{Countable, meant};
 ghost use Rattle.types.specs.Answers.{Below};
 ghost use Rattle.types.specs.States.{state, entered, kind-number, first-field, second-field, row-numbers, Opened};
 ghost use Rattle.types.specs.Applying.{row-written, rows-cleared, Enterable, Meetable, Meeting, met-links, Applicable, Applying, applied-entries, applied-links};
@@ -243,12 +241,6 @@ fn standing_bound(i: u16) -> Bound
     Bound::Product(i - 1, i - 1)
 }
 
-fn at_most(n: u16, most: u16) -> u16
-    ensures { λ r. ⌜ r ≡ min n most ⌝ }
-{
-    if n < most { n } else { most }
-}
-
 // Adds a row's entries, and gives the number of entries then.
 fn enter(
     parent: &mut [u16],
@@ -258,15 +250,16 @@ fn enter(
     left: &mut [u16],
     right: &mut [u16],
     live: Mark,
-    list: Entries,
+    row: Adds,
 ) -> u16
-    requires { ⌜ ((trail : List ℕ) × Enterable (table (now parent) (now rank) (now shape) (now kind) (now left) (now right) trail (live .entries) (live .links)) (meant-entries list)) ⌝ }
+    requires { ⌜ ((trail : List ℕ) × Enterable (table (now parent) (now rank) (now shape) (now kind) (now left) (now right) trail (live .entries) (live .links)) (meant row .entries)) ⌝ }
+    requires { ⌜ Countable row ⌝ }
     ensures { λ r. ⌜ ((trail : List ℕ) →
         table (now (parent .exit)) (now (rank .exit)) (now (shape .exit)) (now (kind .exit)) (now (left .exit)) (now (right .exit)) trail r (live .links)
-        ≡ entered (table (now (parent .entry)) (now (rank .entry)) (now (shape .entry)) (now (kind .entry)) (now (left .entry)) (now (right .entry)) trail (live .entries) (live .links)) (meant-entries list)) ⌝ }
+        ≡ entered (table (now (parent .entry)) (now (rank .entry)) (now (shape .entry)) (now (kind .entry)) (now (left .entry)) (now (right .entry)) trail (live .entries) (live .links)) (meant row .entries)) ⌝ }
 {
     let links = live.links;
-    let count = at_most(list.count, 8);
+    let count = arrow::entry_count(row);
     let mut entries = live.entries;
     let mut i = 0;
     while i < count {
@@ -279,7 +272,7 @@ fn enter(
             left,
             right,
             now,
-            arrow::entry_at(list, i),
+            arrow::entry_at(row, i),
         ) else {
             return entries;
         };
@@ -310,20 +303,21 @@ fn meet(
     trail: &mut [u16],
     pending: &mut [u16],
     live: Mark,
-    list: Needs,
+    row: Adds,
 ) -> Met
-    requires { ⌜ Meetable (table (now parent) (now rank) (now shape) (now kind) (now left) (now right) (now trail) (live .entries) (live .links)) (now pending) (meant-needs list) ⌝ }
+    requires { ⌜ Meetable (table (now parent) (now rank) (now shape) (now kind) (now left) (now right) (now trail) (live .entries) (live .links)) (now pending) (meant row .needs) ⌝ }
+    requires { ⌜ Countable row ⌝ }
     ensures { λ r. ⌜ Meeting
         (table (now (parent .entry)) (now (rank .entry)) (now (shape .entry)) (now (kind .entry)) (now (left .entry)) (now (right .entry)) (now (trail .entry)) (live .entries) (live .links))
-        (meant-needs list) r
+        (meant row .needs) r
         (table (now (parent .exit)) (now (rank .exit)) (now (shape .exit)) (now (kind .entry)) (now (left .entry)) (now (right .entry)) (now (trail .exit)) (live .entries) (met-links r)) ⌝ }
 {
     let entries = live.entries;
-    let count = at_most(list.count, 4);
+    let count = arrow::rule_count(row);
     let mut links = live.links;
     let mut i = 0;
     while i < count {
-        let r = arrow::rule_at(list, i);
+        let r = arrow::rule_at(row, i);
         let now = Mark { entries, links };
         let joined = context::join(
             parent,
@@ -362,12 +356,13 @@ fn apply(
     row: Adds,
 ) -> Applied
     requires { ⌜ Applicable (table (now parent) (now rank) (now shape) (now kind) (now left) (now right) (now trail) (live .entries) (live .links)) (now pending) (meant row) ⌝ }
+    requires { ⌜ Countable row ⌝ }
     ensures { λ r. ⌜ Applying
         (table (now (parent .entry)) (now (rank .entry)) (now (shape .entry)) (now (kind .entry)) (now (left .entry)) (now (right .entry)) (now (trail .entry)) (live .entries) (live .links))
         (meant row) r
         (table (now (parent .exit)) (now (rank .exit)) (now (shape .exit)) (now (kind .exit)) (now (left .exit)) (now (right .exit)) (now (trail .exit)) (applied-entries (live .entries) r) (applied-links (live .links) r)) ⌝ }
 {
-    let entries = enter(parent, rank, shape, kind, left, right, live, row.entries);
+    let entries = enter(parent, rank, shape, kind, left, right, live, row);
     let links = live.links;
     let entered = Mark { entries, links };
     match meet(
@@ -380,7 +375,7 @@ fn apply(
         trail,
         pending,
         entered,
-        row.needs,
+        row,
     ) {
         Met::All(l) => Applied::Fits(Mark { entries, links: l }),
         Met::Clash(rule, l) => {
@@ -437,13 +432,15 @@ pub fn offer(
         entries: live.entries,
         links: live.links,
     };
-    let row = arrow::adds_of(
-        n,
-        arrow_at(nodes, first_child(n)),
-        arrow_at(nodes, second_field(n)),
-        live.entries,
-    );
-    let gives = row.gives;
+    let s = arrow_at(nodes, first_child(n));
+    let t = arrow_at(nodes, second_field(n));
+    let row = Adds {
+        node: n,
+        s,
+        t,
+        e: live.entries,
+    };
+    let gives = arrow::gives(row);
     match apply(
         parent,
         rank,

@@ -63,4 +63,3 @@ leave-out-all-joins-spec =
     loop-again
     same-length
     returns)
-

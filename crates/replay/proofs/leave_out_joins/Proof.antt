@@ -78,4 +78,3 @@ leave-out-joins-spec =
     slice-write-answers-4
     same-length
     returns-5)
-

@@ -55,4 +55,3 @@ listing-bytes-spec =
     loop-again
     same-length
     returns)
-

@@ -64,4 +64,3 @@ main-spec =
     loop-less
     loop-again
     returns-2)
-

@@ -49,4 +49,3 @@ put-spec =
     slice-write-bytes-2
     same-length
     returns-3)
-

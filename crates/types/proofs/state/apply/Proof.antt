@@ -2,7 +2,7 @@
 use mathlib.Core.Path.{_≡_, refl, _∙_, subst}
 use Rattle.classes.specs.Table.{Table, table}
 use Rattle.types.specs.States.{entered}
-use Rattle.nodes.specs.Meant.{meant, meant-entries}
+use Rattle.nodes.specs.Meant.{meant}
 use Rattle.types.specs.Applying.{Meeting, met-links}
 use Rattle.types.specs.declared.state.Met.{Met}
 use Rattle.types.proofs.Applies.{meetable, clash-run, clash-marked}
@@ -29,7 +29,7 @@ entered-table c =
     let l = c .enter .last in
     table (l .0) (l .1 .0) (l .1 .1 .0) (l .1 .1 .1 .0) (l .1 .1 .1 .1 .0) (l .1 .1 .1 .1 .1 .0) (a .trail .now) (c .enter .result) (a .live .links)
 
-entered-is : (c : tie.After-enter) → entered-table c ≡ entered (given-table c) (meant-entries (start (c .before) .args .row .entries))
+entered-is : (c : tie.After-enter) → entered-table c ≡ entered (given-table c) (meant (start (c .before) .args .row) .entries)
 entered-is c = c .enter .ensures (start (c .before) .args .trail .now)
 
 -- what joining the rules leaves, by its answer
@@ -61,10 +61,10 @@ abbrev undoes : tie.After-slice-known26 → tie.After-undo
 undoes c = c .before .before .before .before .before .before .before .before .before .before .before .before .before .before
 
 enter-requires : tie.Need-enter-requires
-enter-requires c κs = (start c .args .trail .now, start c .pre .enterable)
+enter-requires c κs = ((start c .args .trail .now, start c .pre .0 .enterable), start c .pre .1)
 
 meet-requires : tie.Need-meet-requires
-meet-requires c κs = meetable (start (enters c .before) .pre) (entered-table (enters c)) (entered-is (enters c))
+meet-requires c κs = (meetable (start (enters c .before) .pre .0) (entered-table (enters c)) (entered-is (enters c)), start (enters c .before) .pre .1)
 
 enum-known-l : tie.Need-enum-known-l
 enum-known-l c = search needs
@@ -73,7 +73,7 @@ enum-known-rule : tie.Need-enum-known-rule
 enum-known-rule c = search needs
 
 undo-requires : tie.Need-undo-requires
-undo-requires c κs = let m = met (clashes c) _ (c .before .before .before .before .before .before .before .before .rule .given .1) in clash-marked (begun (clashes c) .pre) (m .1)
+undo-requires c κs = let m = met (clashes c) _ (c .before .before .before .before .before .before .before .before .rule .given .1) in clash-marked (begun (clashes c) .pre .0) (m .1)
 
 same-length : tie.Need-same-length
 same-length c = search needs
@@ -131,7 +131,7 @@ returns-2 c =
     let u = undoes c in
     let m = clashes (u .before) in
     let stopped = met m _ (u .before .before .before .before .before .before .before .before .before .rule .given .1) in
-    (u .undo .ensures .given-back (given-table (e m)) (begun m .pre .enterable .made) (clash-run (begun m .pre) (stopped .1)) refl, (stopped .0, _, stopped .1, stopped .2))
+    (u .undo .ensures .given-back (given-table (e m)) (begun m .pre .0 .enterable .made) (clash-run (begun m .pre .0) (stopped .1)) refl, (stopped .0, _, stopped .1, stopped .2))
 
 pub apply-spec : {M : Type 1} → statement M
 apply-spec =

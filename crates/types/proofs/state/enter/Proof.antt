@@ -1,27 +1,26 @@
 -- `types::state::enter` meets its contract. The invariant: adding what is left from here gives what adding all gives from the start.
-use mathlib.Core.Path.{_≡_, sym, _∙_}
+use mathlib.Core.Path.{_≡_}
 use Prim.Native.Nat.{ℕ, _-_, _<_}
 use native.Mathlib.Omega.{arith}
-use lib.ListN.{length, getD, length-take}
-use lib.Seq.{getD-take}
+use lib.ListN.{length, getD}
 use Rattle.classes.specs.declared.Bound.the-variants.{Free}
 use Rattle.classes.specs.declared.context.Added.the-variants.{Entry}
-use Rattle.nodes.specs.Meant.{meant-entries}
+use Rattle.nodes.specs.Meant.{meant}
 use Rattle.types.proofs.EachEntry.{Adding, adding-begins, adding-small, adding-answer, adding-again, adding-ends}
 use borrow.Author.Needs.{needs}
 use Rattle.types.proofs.state.enter.Statement.{statement}
 use Rattle.types.proofs.state.enter.Tie as tie
 
 abbrev Inv-loop : tie.InvT-loop
-Inv-loop parent₀ rank₀ shape₀ kind₀ left₀ right₀ list links count entries₀ i₀ parent rank shape kind left right entries i =
-    Adding parent₀ rank₀ shape₀ kind₀ left₀ right₀ entries₀ links (meant-entries list) parent rank shape kind left right entries i
+Inv-loop parent₀ rank₀ shape₀ kind₀ left₀ right₀ row links count entries₀ i₀ parent rank shape kind left right entries i =
+    Adding parent₀ rank₀ shape₀ kind₀ left₀ right₀ entries₀ links (meant row .entries) parent rank shape kind left right entries i
 
 abbrev μ-loop : tie.MeasureT-loop
-μ-loop parent₀ rank₀ shape₀ kind₀ left₀ right₀ list links count entries₀ i₀ parent rank shape kind left right entries i =
+μ-loop parent₀ rank₀ shape₀ kind₀ left₀ right₀ row links count entries₀ i₀ parent rank shape kind left right entries i =
     count - i
 
 -- the places: the start before the loop; a turn's test, as the call of `entry_at` has it; the call of `add`, as the end of a turn has it
-abbrev start : tie.After-at-most Inv-loop μ-loop → tie.Start Inv-loop μ-loop
+abbrev start : tie.After-entry-count Inv-loop μ-loop → tie.Start Inv-loop μ-loop
 start c = c .before .before .before .before .before .before .before
 
 abbrev turn : tie.After-add-arg6 Inv-loop μ-loop → tie.In-loop Inv-loop μ-loop
@@ -31,21 +30,19 @@ abbrev call : tie.After-slice-known12 Inv-loop μ-loop → tie.After-add Inv-loo
 call c = c .before .before .before .before .before .before .before .before .before .before .before .before
 
 -- the loop's count is the number of the entries that are meant
-count-is : (c : tie.After-at-most Inv-loop μ-loop) → c .at-most .result ≡ length (meant-entries (start c .args .list))
-count-is c = c .at-most .ensures ∙ sym (length-take _ _)
+count-is : (c : tie.After-entry-count Inv-loop μ-loop) → c .entry-count .result ≡ length (meant (start c .args .row) .entries)
+count-is c = c .entry-count .ensures
 
 -- a turn: its entry is there, its bound is the list's, and it is added
 module _ (c : tie.After-add Inv-loop μ-loop) where
   abbrev at : tie.In-loop Inv-loop μ-loop
   at = turn (c .before .before)
 
-  there : at .before .loop .i < length (meant-entries (start (at .before .before) .args .list))
+  there : at .before .loop .i < length (meant (start (at .before .before) .args .row) .entries)
   there = omega (arith, at .loop-test .taken, count-is (at .before .before))
 
-  bound-is : c .before .entry-at .result ≡ getD (meant-entries (start (at .before .before) .args .list)) (at .before .loop .i) Free
-  bound-is =
-      c .before .entry-at .ensures
-      ∙ sym (getD-take (start (at .before .before) .args .list .count) _ (at .before .loop .i) Free (omega (arith, at .loop-test .taken, at .before .before .at-most .ensures)))
+  bound-is : c .before .entry-at .result ≡ getD (meant (start (at .before .before) .args .row) .entries) (at .before .loop .i) Free
+  bound-is = c .before .entry-at .ensures
 
   answer : c .add .result ≡ Entry (at .before .loop .entries)
   answer = adding-answer (at .before .loop .inv) there bound-is (c .add .ensures)
@@ -57,14 +54,16 @@ never c =
     let b = c .enum-told2 .given .1 in
     let z : _≡_ {A = ℕ} 0 1 = cc in omega arith
 
-at-most-requires : tie.Need-at-most-requires Inv-loop μ-loop
-at-most-requires c κs = search needs
+entry-count-requires : tie.Need-entry-count-requires Inv-loop μ-loop
+entry-count-requires c κs = search needs
 
 loop-holds : tie.Need-loop-holds Inv-loop μ-loop
-loop-holds c = adding-begins (start c .pre .0) (start c .pre .1)
+loop-holds c = adding-begins (start c .pre .0 .0) (start c .pre .0 .1)
 
 entry-at-requires : tie.Need-entry-at-requires Inv-loop μ-loop
-entry-at-requires c κs = omega (arith, turn c .loop-test .taken, turn c .before .before .at-most .ensures)
+entry-at-requires c κs =
+    let t = turn c in
+    (start (t .before .before) .pre .1, omega (arith, t .loop-test .taken, count-is (t .before .before)))
 
 add-requires : tie.Need-add-requires Inv-loop μ-loop
 add-requires c κs = (turn (c .before) .before .loop .inv .trail, turn (c .before) .before .loop .inv .enterable .made)
@@ -102,7 +101,7 @@ add-entries c =
     record { fits = adding-small (at l .before .loop .inv) (there l) }
 
 add-i : tie.Need-add-i Inv-loop μ-loop
-add-i c = omega (arith, at (call (c .before .before)) .loop-test .taken, at (call (c .before .before)) .before .before .at-most .ensures)
+add-i c = let l = call (c .before .before) in omega (arith, at l .loop-test .taken, at l .before .before .entry-count .ok)
 
 loop-less : tie.Need-loop-less Inv-loop μ-loop
 loop-less c = omega (arith, at (call (c .before .before)) .loop-test .taken)
@@ -139,7 +138,7 @@ enter-spec =
     (tie.spec
     Inv-loop
     μ-loop
-    at-most-requires
+    entry-count-requires
     loop-holds
     entry-at-requires
     add-requires

@@ -1,5 +1,5 @@
 -- `types::state::meet` meets its contract. The invariant: the rules left to join lead to what all of them lead to from the start.
-use mathlib.Core.Path.{_≡_, refl, sym, _∙_}
+use mathlib.Core.Path.{_≡_, refl, _∙_}
 use mathlib.Core.List.{[], _∷_}
 use Prim.Native.Nat.{_+_, _-_, _<_}
 use native.Mathlib.Omega.{arith}
@@ -11,22 +11,22 @@ use Rattle.classes.specs.declared.context.Joined.{Joined}
 use Rattle.classes.specs.Forced.{equal}
 use Rattle.classes.specs.Merging.{Merges}
 use Rattle.nodes.specs.Layout.{says}
-use Rattle.nodes.specs.Meant.{meant-needs}
-use Rattle.types.proofs.Joining.{needs-count, need-read, Joins, joins-begin, joins-again, joins-stop, joins-end, one-live, other-live, links-fit, merges-as}
+use Rattle.nodes.specs.Meant.{meant}
+use Rattle.types.proofs.Joining.{Joins, joins-begin, joins-again, joins-stop, joins-end, one-live, other-live, links-fit, merges-as}
 use Rattle.types.proofs.state.meet.Statement.{statement}
 use Rattle.types.proofs.state.meet.Tie as tie
 
 abbrev Inv-loop : tie.InvT-loop
-Inv-loop parent₀ rank₀ shape₀ kind left right trail₀ pending₀ list entries count links₀ i₀ parent rank shape trail pending links i =
+Inv-loop parent₀ rank₀ shape₀ kind left right trail₀ pending₀ row entries count links₀ i₀ parent rank shape trail pending links i =
     ((length parent ≡ length parent₀) × (length rank ≡ length rank₀) × (length shape ≡ length shape₀) × (length trail ≡ length trail₀) × (length pending ≡ length pending₀))
-    × (count ≡ length (meant-needs list))
-    × Joins (table parent₀ rank₀ shape₀ kind left right trail₀ entries links₀) (meant-needs list) (table parent rank shape kind left right trail entries links) pending i
+    × (count ≡ length (meant row .needs))
+    × Joins (table parent₀ rank₀ shape₀ kind left right trail₀ entries links₀) (meant row .needs) (table parent rank shape kind left right trail entries links) pending i
 
 abbrev μ-loop : tie.MeasureT-loop
-μ-loop parent₀ rank₀ shape₀ kind left right trail₀ pending₀ list entries count links₀ i₀ parent rank shape trail pending links i = count - i
+μ-loop parent₀ rank₀ shape₀ kind left right trail₀ pending₀ row entries count links₀ i₀ parent rank shape trail pending links i = count - i
 
 -- the places: the start, a turn's test, the join, and its end
-abbrev start : tie.After-at-most Inv-loop μ-loop → tie.Start Inv-loop μ-loop
+abbrev start : tie.After-rule-count Inv-loop μ-loop → tie.Start Inv-loop μ-loop
 start c = c .before .before .before .before .before .before .before .before .before
 
 abbrev rule-read : tie.After-join-arg5 Inv-loop μ-loop → tie.After-rule-at Inv-loop μ-loop
@@ -44,16 +44,16 @@ module _ (c : tie.After-rule-at Inv-loop μ-loop) where
   begun = start (head .before)
 
   abbrev joins-now : Joins (table (begun .args .parent .now) (begun .args .rank .now) (begun .args .shape .now) (begun .args .kind .now) (begun .args .left .now) (begun .args .right .now) (begun .args .trail .now) (begun .args .live .entries) (begun .args .live .links))
-      (meant-needs (begun .args .list))
+      (meant (begun .args .row) .needs)
       (table (head .loop .parent) (head .loop .rank) (head .loop .shape) (begun .args .kind .now) (begun .args .left .now) (begun .args .right .now) (head .loop .trail) (begun .args .live .entries) (head .loop .links))
       (head .loop .pending) (head .loop .i)
   joins-now = head .loop .inv .2
 
-  more : head .loop .i < length (meant-needs (begun .args .list))
+  more : head .loop .i < length (meant (begun .args .row) .needs)
   more = omega (arith, c .before .loop-test .taken, head .loop .inv .1)
 
-  read : says (c .rule-at .result .number) (c .rule-at .result .one) (c .rule-at .result .other) ≡ getD (meant-needs (begun .args .list)) (head .loop .i) (says 0 0 0)
-  read = need-read (begun .args .list) (head .loop .i) (c .rule-at .result) more (c .rule-at .ensures)
+  read : says (c .rule-at .result .number) (c .rule-at .result .one) (c .rule-at .result .other) ≡ getD (meant (begun .args .row) .needs) (head .loop .i) (says 0 0 0)
+  read = c .rule-at .ensures
 
 -- what the join leaves, by its answer
 module _ (c : tie.After-links-made Inv-loop μ-loop) where
@@ -74,14 +74,14 @@ module _ (c : tie.After-links-made Inv-loop μ-loop) where
   merged : (j : Joined) → calls c .join .result ≡ j → Merges now-table (equal (r .rule-at .result .one) (r .rule-at .result .other) ∷ []) (verdict j) then
   merged j is = merges-as now-table (calls c .join .last .0) (calls c .join .last .1 .0) (calls c .join .last .1 .1 .0) (calls c .join .last .1 .1 .1 .1 .1 .1 .0) (calls c .join .ensures .merges) (c .links-made .ensures) is
 
-at-most-requires : tie.Need-at-most-requires Inv-loop μ-loop
-at-most-requires c κs = search needs
+rule-count-requires : tie.Need-rule-count-requires Inv-loop μ-loop
+rule-count-requires c κs = search needs
 
 loop-holds : tie.Need-loop-holds Inv-loop μ-loop
-loop-holds c = ((refl, refl, refl, refl, refl), c .at-most .ensures ∙ sym (needs-count (start c .args .list)), joins-begin (start c .pre))
+loop-holds c = ((refl, refl, refl, refl, refl), c .rule-count .ensures, joins-begin (start c .pre .0))
 
 rule-at-requires : tie.Need-rule-at-requires Inv-loop μ-loop
-rule-at-requires c κs = omega (arith, c .loop-test .taken, c .before .loop .inv .1, needs-count (start (c .before .before) .args .list))
+rule-at-requires c κs = (start (c .before .before) .pre .1, omega (arith, c .loop-test .taken, c .before .loop .inv .1))
 
 join-requires : tie.Need-join-requires Inv-loop μ-loop
 join-requires c κs =
@@ -122,7 +122,7 @@ add-links : tie.Need-add-links Inv-loop μ-loop
 add-links c = let d = c .before .before in record { fits = links-fit (joins-now (r d)) (more (r d)) _ _ _ (read (r d)) (merged d _ (c .enum-told .given .1)) }
 
 add-i : tie.Need-add-i Inv-loop μ-loop
-add-i c = let d = c .before .before in omega (arith, more (r d), needs-count (begun (r d) .args .list))
+add-i c = let d = c .before .before in omega (arith, r d .before .loop-test .taken, head (r d) .before .rule-count .ok)
 
 loop-less : tie.Need-loop-less Inv-loop μ-loop
 loop-less c = let d = c .before .before in omega (arith, r d .before .loop-test .taken)
@@ -161,7 +161,7 @@ meet-spec =
     (tie.spec
     Inv-loop
     μ-loop
-    at-most-requires
+    rule-count-requires
     loop-holds
     rule-at-requires
     join-requires

@@ -9,6 +9,7 @@ use Rattle.nodes.specs.Meant.{meant}
 use Rattle.types.specs.Answers.{Below}
 use Rattle.types.specs.States.{State, state, row-numbers, Opened}
 use Rattle.types.specs.Applying.{row-written, Applying, applied-entries, applied-links}
+use Rattle.nodes.specs.declared.arrow.Adds.{Adds}
 use Rattle.nodes.specs.declared.arrow.Arrow.{Arrow}
 use Rattle.types.specs.declared.state.Applied.{Applied}
 use Rattle.types.proofs.Children.{second-child}
@@ -27,8 +28,8 @@ asked c = c .before .before
 abbrev read : tie.After-arrow-at2 → tie.After-first-child
 read c = c .before .before .before .before
 
-abbrev works-out : tie.After-apply-arg8 → tie.After-adds-of
-works-out c = c .before .before .before .before .before .before .before .before .before
+abbrev works-out : tie.After-apply-arg8 → tie.After-gives
+works-out c = c .before .before .before .before .before .before .before .before
 
 -- the state that was lent
 abbrev lent : tie.Start → State
@@ -51,7 +52,7 @@ module _ (c : tie.Else2) where
   below = c .before .children-below .ensures .0 (not-false (c .before .children-below .result) (c .if2 .left))
 
 -- the row that was worked out is the node's
-module _ (c : tie.After-adds-of) where
+module _ (c : tie.After-gives) where
   abbrev two : tie.After-arrow-at2
   two = c .before
 
@@ -64,16 +65,19 @@ module _ (c : tie.After-adds-of) where
   abbrev arrow-read : ℕ → Arrow
   arrow-read i = arrow (getD (from .args .nodes .now) (7 * i + 3) 0) (getD (from .args .nodes .now) (7 * i + 4) 0)
 
-  row-eq : {most : ℕ} (o : Opened most (lent from)) → meant (c .adds-of .result) ≡ row-of (o .program) (from .args .n)
+  -- the node with its children's arrows, as the code puts it together
+  abbrev worked : Adds
+  worked = record { node = from .args .n; s = two .before .before .before .arrow-at .result; t = two .arrow-at2 .result; e = from .args .live .entries }
+
+  row-eq : {most : ℕ} (o : Opened most (lent from)) → meant worked ≡ row-of (o .program) (from .args .n)
   row-eq o =
-      c .adds-of .ensures
-      ∙ row-is o (room past) (from .args .n) (from .pre .1 .0) (below past) (two .before .before .before .arrow-at .result) (two .arrow-at2 .result)
+      row-is o (room past) (from .args .n) (from .pre .1 .0) (below past) (two .before .before .before .arrow-at .result) (two .arrow-at2 .result)
       (two .before .before .before .arrow-at .ensures ∙ ap arrow-read (read two .first-child .ensures))
       (two .arrow-at2 .ensures ∙ ap arrow-read (two .before .second-field .ensures ∙ second-child (from .args .n)))
 
 -- what applying it leaves, by its answer
 module _ (c : tie.After-apply) where
-  abbrev row : tie.After-adds-of
+  abbrev row : tie.After-gives
   row = works-out (c .before)
 
   abbrev left-with : Applied → Table
@@ -82,8 +86,8 @@ module _ (c : tie.After-apply) where
       let a = from row .args in
       table (l .0) (l .1 .0) (l .1 .1 .0) (l .1 .1 .1 .0) (l .1 .1 .1 .1 .0) (l .1 .1 .1 .1 .1 .0) (l .1 .1 .1 .1 .1 .1 .0) (applied-entries (a .live .entries) r) (applied-links (a .live .links) r)
 
-  applied : (r : Applied) → c .apply .result ≡ r → Applying (lent (from row) .classes) (meant (row .adds-of .result)) r (left-with r)
-  applied r is = subst (λ (x : Applied). Applying (lent (from row) .classes) (meant (row .adds-of .result)) x (left-with x)) is (c .apply .ensures)
+  applied : (r : Applied) → c .apply .result ≡ r → Applying (lent (from row) .classes) (meant (worked row)) r (left-with r)
+  applied r is = subst (λ (x : Applied). Applying (lent (from row) .classes) (meant (worked row)) x (left-with x)) is (c .apply .ensures)
 
 abbrev refused : tie.After-known-told → tie.After-apply
 refused c = c .before .before .before .before .before .before .before .before .before .before .before .before .before .before .before .before .before .before .before
@@ -99,7 +103,7 @@ module _ (c : tie.After-write-row-arg) where
   abbrev a : tie.After-apply
   a = fits c
 
-  abbrev r : tie.After-adds-of
+  abbrev r : tie.After-gives
   r = row a
 
 cast-if1 : tie.Need-cast-if1
@@ -129,11 +133,15 @@ second-field-requires c κs = search needs
 arrow-at-requires-2 : tie.Need-arrow-at-requires-2
 arrow-at-requires-2 c κs = let a = asked (c .before .before .before) in rw (c .second-field .ensures ∙ second-child (begun a .args .n)) (child-row (opened a) (room a) (begun a .args .n) (begun a .pre .1 .0) (below a) 1)
 
-adds-of-requires : tie.Need-adds-of-requires
-adds-of-requires c κs = let a = asked (read c) in (entries-fit (opened a) (room a) (begun a .args .n) (begun a .pre .1 .0) (below a), begun a .pre .1 .0)
+gives-requires : tie.Need-gives-requires
+gives-requires c κs = let a = asked (read c) in (entries-fit (opened a) (room a) (begun a .args .n) (begun a .pre .1 .0) (below a), begun a .pre .1 .0)
 
 apply-requires : tie.Need-apply-requires
-apply-requires c κs = let r = works-out c in applicable (opened (past r)) (room (past r)) (from r .args .n) (from r .pre .1 .0) (below (past r)) (from r .args .pending .now) (from r .pre .1 .1) (meant (r .adds-of .result)) (row-eq r (opened (past r)))
+apply-requires c κs =
+    let r = works-out c in (
+      applicable (opened (past r)) (room (past r)) (from r .args .n) (from r .pre .1 .0) (below (past r)) (from r .args .pending .now) (from r .pre .1 .1) (meant (worked r)) (row-eq r (opened (past r))),
+      (entries-fit (opened (past r)) (room (past r)) (from r .args .n) (from r .pre .1 .0) (below (past r)), from r .pre .1 .0),
+    )
 
 enum-known-rule : tie.Need-enum-known-rule
 enum-known-rule c = search needs
@@ -144,11 +152,11 @@ enum-known-now c = search needs
 write-row-requires : tie.Need-write-row-requires
 write-row-requires c κs = row-there (opened (past (r c))) (room (past (r c)))
 
-sub-t55 : tie.Need-sub-t55
-sub-t55 c = let w = writes c .before in links-more (opened (past (r w))) (room (past (r w))) (from (r w) .args .n) (from (r w) .pre .1 .0) (below (past (r w))) (meant (r w .adds-of .result)) (row-eq (r w) (opened (past (r w)))) (applied (a w) _ (w .before .before .now .given .1))
+sub-t54 : tie.Need-sub-t54
+sub-t54 c = let w = writes c .before in links-more (opened (past (r w))) (room (past (r w))) (from (r w) .args .n) (from (r w) .pre .1 .0) (below (past (r w))) (meant (worked (r w))) (row-eq (r w) (opened (past (r w)))) (applied (a w) _ (w .before .before .now .given .1))
 
-add-t57 : tie.Need-add-t57
-add-t57 c = let w = writes c .before in record { fits = kept-fits (opened (past (r w))) (room (past (r w))) (from (r w) .args .n) (from (r w) .pre .1 .0) (below (past (r w))) }
+add-t56 : tie.Need-add-t56
+add-t56 c = let w = writes c .before in record { fits = kept-fits (opened (past (r w))) (room (past (r w))) (from (r w) .args .n) (from (r w) .pre .1 .0) (below (past (r w))) }
 
 same-length : tie.Need-same-length
 same-length c = search needs
@@ -182,7 +190,7 @@ returns-3 c =
     let a = refused c in
     let r = row a in
     let stopped = applied a _ (c .before .rule .given .1) in
-    λ most o. offer-refused o (room (past r)) (from r .args .n) (from r .pre .1 .0) (below (past r)) (meant (r .adds-of .result)) (row-eq r o) (stopped .0) (stopped .1 .2) (stopped .1 .3)
+    λ most o. offer-refused o (room (past r)) (from r .args .n) (from r .pre .1 .0) (below (past r)) (meant (worked r)) (row-eq r o) (stopped .0) (stopped .1 .2) (stopped .1 .3)
 
 same-length-10 : tie.Need-same-length-10
 same-length-10 c = search needs
@@ -216,8 +224,10 @@ returns-4 c =
     let w = writes c .before in
     λ most o.
     offer-kept o (room (past (r w))) (from (r w) .args .n) (from (r w) .pre .1 .0) (below (past (r w)))
-    (met-row o (room (past (r w))) (from (r w) .args .n) (from (r w) .pre .1 .0) (below (past (r w))) (meant (r w .adds-of .result)) (row-eq (r w) o) (applied (a w) _ (w .before .before .now .given .1)))
-    (writes c .write-row .ensures ∙ ap (λ (x : Row). row-written (from (r w) .args .nodes .now) (from (r w) .args .live .kept) (row-numbers (from (r w) .args .n) (x .gives) (from (r w) .args .live .entries) (from (r w) .args .live .links))) (row-eq (r w) o))
+    (met-row o (room (past (r w))) (from (r w) .args .n) (from (r w) .pre .1 .0) (below (past (r w))) (meant (worked (r w))) (row-eq (r w) o) (applied (a w) _ (w .before .before .now .given .1)))
+    (writes c .write-row .ensures
+    ∙ ap (λ (x : Arrow). row-written (from (r w) .args .nodes .now) (from (r w) .args .live .kept) (row-numbers (from (r w) .args .n) x (from (r w) .args .live .entries) (from (r w) .args .live .links))) (r w .gives .ensures)
+    ∙ ap (λ (x : Row). row-written (from (r w) .args .nodes .now) (from (r w) .args .live .kept) (row-numbers (from (r w) .args .n) (x .gives) (from (r w) .args .live .entries) (from (r w) .args .live .links))) (row-eq (r w) o))
     refl
 
 pub offer-spec : {M : Type 1} → statement M
@@ -233,13 +243,13 @@ offer-spec =
     arrow-at-requires
     second-field-requires
     arrow-at-requires-2
-    adds-of-requires
+    gives-requires
     apply-requires
     enum-known-rule
     enum-known-now
     write-row-requires
-    sub-t55
-    add-t57
+    sub-t54
+    add-t56
     same-length
     same-length-2
     same-length-3
