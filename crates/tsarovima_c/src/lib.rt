@@ -1,8 +1,8 @@
 // For hosts in C and Rust: the job call, and the record calls over tables that the host lends. `rt staticlib tsarovima_c` writes
 // the archive, tsarovima.h declares it. A slice is a pointer and a length to the host.
 //
-// The record calls have one premise: the tables came from tsarovima_open and these calls, and nobody else wrote to them. Lengths
-// are looked at, and a wrong one is answered with 1 and nothing else.
+// The record calls have one premise: the tables came from tsarovima_open and these calls, and nobody else wrote to them. A length
+// that this does not fix is looked at, and a wrong one is answered with 1 and nothing else.
 
 use formats::header;
 use jobs::run;
