@@ -15,7 +15,7 @@ ghost use Rattle.classes.specs.Table.{table, bounds};
 ghost use Rattle.classes.specs.Made.{Stands};
 ghost use Rattle.typing.specs.Types.{Ty};
 ghost use Rattle.closing.specs.Closings.{source-at, target-at, ClosedBy};
-ghost use Rattle.closing.specs.Visiting.{Settled};
+ghost use Rattle.closing.specs.Visiting.{Settled, VisitedBy};
 ghost use Rattle.closing.specs.Writing.{cleared, ArrowBy, Closable, AllBy, type-number, Numberable, ArrowsWritten, ListingWritten};
 
 // Numbers in a node's row, and where its source and target stand.
@@ -42,7 +42,47 @@ fn clear(work: &mut [u16], entries: u16)
     }
 }
 
-// Visits a node's source, then its target.
+// Visits an entry whose class may have its number already.
+fn visit_unless_numbered(
+    parent: &[u16],
+    shape: &[u16],
+    kind: &[u16],
+    left: &[u16],
+    right: &[u16],
+    work: &mut [u16],
+    listing: &mut [u16],
+    entries: u16,
+    count: u16,
+    a: u16,
+) -> Visited
+    requires { ⌜ ((rank trail : List ℕ) × (links : ℕ) × (rules : List Rule) × (ts : List Ty)
+        × Stands (table (now parent) rank (now shape) (now kind) (now left) (now right) trail entries links) rules
+        × Settled (table (now parent) rank (now shape) (now kind) (now left) (now right) trail entries links) rules (now work) (now listing) count ts) ⌝ }
+    requires { ⌜ a < entries ⌝ }
+    ensures { λ r. ⌜ ((rank trail : List ℕ) (links : ℕ) (rules : List Rule) (ts : List Ty)
+        → Stands (table (now (parent .entry)) rank (now (shape .entry)) (now (kind .entry)) (now (left .entry)) (now (right .entry)) trail entries links) rules
+        → Settled (table (now (parent .entry)) rank (now (shape .entry)) (now (kind .entry)) (now (left .entry)) (now (right .entry)) trail entries links) rules (now (work .entry)) (now (listing .entry)) count ts
+        → VisitedBy (table (now (parent .entry)) rank (now (shape .entry)) (now (kind .entry)) (now (left .entry)) (now (right .entry)) trail entries links) rules (now (work .entry)) (now (listing .entry)) count ts a r (now (work .exit)) (now (listing .exit))) ⌝ }
+{
+    if walk::is_numbered(parent, work, a) {
+        return Visited::Done(count);
+    }
+    walk::visit(
+        parent,
+        shape,
+        kind,
+        left,
+        right,
+        work,
+        listing,
+        entries,
+        count,
+        a,
+    )
+}
+
+// Visits a node's source, then its target. The source is looked at here: as `walk::visit` then has two callers, the compiler leaves
+// it a call of its own, and a node whose types have their numbers pays for the looks alone.
 fn visit_arrow(
     parent: &[u16],
     shape: &[u16],
@@ -65,6 +105,20 @@ fn visit_arrow(
         → Settled (table (now (parent .entry)) rank (now (shape .entry)) (now (kind .entry)) (now (left .entry)) (now (right .entry)) trail entries links) rules (now (work .entry)) (now (listing .entry)) count ts
         → ArrowBy (table (now (parent .entry)) rank (now (shape .entry)) (now (kind .entry)) (now (left .entry)) (now (right .entry)) trail entries links) rules (now (work .entry)) (now (listing .entry)) count ts source target r (now (work .exit)) (now (listing .exit))) ⌝ }
 {
+    if walk::is_numbered(parent, work, source) {
+        return visit_unless_numbered(
+            parent,
+            shape,
+            kind,
+            left,
+            right,
+            work,
+            listing,
+            entries,
+            count,
+            target,
+        );
+    }
     let Visited::Done(types) = walk::visit(
         parent,
         shape,
@@ -79,7 +133,7 @@ fn visit_arrow(
     ) else {
         return Visited::Cycle;
     };
-    walk::visit(
+    visit_unless_numbered(
         parent,
         shape,
         kind,

@@ -6,11 +6,13 @@ use classes::Bound;
 use classes::context;
 use classes::union_bound;
 ghost use mathlib.Core.Path.{_≡_};
+ghost use mathlib.Core.Bool.{true, false};
 ghost use mathlib.Core.List.{List};
 ghost use Prim.Native.Nat.{ℕ, _+_, _-_, _*_, _≤_, _<_};
 ghost use lib.ListN.{length, getD};
 ghost use Rattle.classes.specs.Forced.{Rule};
-ghost use Rattle.classes.specs.Table.{table};
+ghost use Rattle.classes.specs.Table.{table, root-in};
+ghost use Rattle.classes.specs.Turning.{Rooted};
 ghost use Rattle.classes.specs.Made.{Stands};
 ghost use Rattle.typing.specs.Types.{Ty};
 ghost use Rattle.closing.specs.Visiting.{Settled, VisitedBy};
@@ -163,7 +165,8 @@ pub enum Visited {
     Done(u16),
 }
 
-// Numbers the class of a and all that it is made of.
+// Numbers the class of a, which is not seen yet, and all that it is made of. The caller has looked whether it is: a node's types
+// mostly have their numbers already, and looking is cheaper than the call.
 pub(super) fn visit(
     parent: &[u16],
     shape: &[u16],
@@ -180,16 +183,13 @@ pub(super) fn visit(
         × Stands (table (now parent) rank (now shape) (now kind) (now left) (now right) trail entries links) rules
         × Settled (table (now parent) rank (now shape) (now kind) (now left) (now right) trail entries links) rules (now work) (now listing) count ts) ⌝ }
     requires { ⌜ a < entries ⌝ }
+    requires { ⌜ mark-at (now work) (root-in (now parent) a) ≡ 0 ⌝ }
     ensures { λ r. ⌜ ((rank trail : List ℕ) (links : ℕ) (rules : List Rule) (ts : List Ty)
         → Stands (table (now (parent .entry)) rank (now (shape .entry)) (now (kind .entry)) (now (left .entry)) (now (right .entry)) trail entries links) rules
         → Settled (table (now (parent .entry)) rank (now (shape .entry)) (now (kind .entry)) (now (left .entry)) (now (right .entry)) trail entries links) rules (now (work .entry)) (now (listing .entry)) count ts
         → VisitedBy (table (now (parent .entry)) rank (now (shape .entry)) (now (kind .entry)) (now (left .entry)) (now (right .entry)) trail entries links) rules (now (work .entry)) (now (listing .entry)) count ts a r (now (work .exit)) (now (listing .exit))) ⌝ }
 {
-    let bottom = union_bound::root(parent, a);
-    if work[ROW * (bottom as usize)] != UNSEEN {
-        return Visited::Done(count);
-    }
-    open(work, 0, bottom);
+    open(work, 0, union_bound::root(parent, a));
     let mut depth: u16 = 1;
     let mut types = count;
     loop {
@@ -213,4 +213,12 @@ pub(super) fn visit(
         depth = d;
         types = c;
     }
+}
+
+// Whether the class of a has its number: between two visits none is open, so one that is seen has it.
+pub(super) fn is_numbered(parent: &[u16], work: &[u16], a: u16) -> bool
+    requires { ⌜ Rooted (now parent) a × (4 * root-in (now parent) a < length (now work)) ⌝ }
+    ensures { λ r. ⌜ (r ≡ true → mark-at (now (work .entry)) (root-in (now (parent .entry)) a) ≡ 0 → ⊥) × (r ≡ false → mark-at (now (work .entry)) (root-in (now (parent .entry)) a) ≡ 0) ⌝ }
+{
+    work[ROW * (union_bound::root(parent, a) as usize)] != UNSEEN
 }

@@ -1,7 +1,7 @@
 -- `closing::walk::visit` meets its contract. The invariant: what holds between the steps of a walk that began with the class of a.
 use mathlib.Core.Path.{_≡_, refl, sym, _∙_, ap, subst}
 use mathlib.Core.List.{List, []}
-use Prim.Native.Nat.{ℕ, _+_, _-_, _*_, _^_, _<_}
+use Prim.Native.Nat.{ℕ, _+_, _*_, _<_}
 use native.Mathlib.Omega.{arith}
 use borrow.Author.Needs.{needs}
 use lib.ListN.{length}
@@ -17,12 +17,12 @@ use Rattle.classes.proofs.Closing.{made-good}
 use Rattle.classes.proofs.Premises.{made-rooted}
 use Rattle.classes.proofs.Roots.{root-live}
 use Rattle.closing.proofs.Walks.{Walking, After, top-there}
-use Rattle.closing.proofs.Visits.{seeable, seen-low, steppable, walked-on, visited-again, walking-begins, visited-done, visited-endless}
+use Rattle.closing.proofs.Visits.{seeable, seen-low, steppable, walked-on, walking-begins, visited-done, visited-endless}
 use Rattle.closing.proofs.walk.visit.Statement.{statement}
 use Rattle.closing.proofs.walk.visit.Tie as tie
 
 abbrev Inv-loop : tie.InvT-loop
-Inv-loop parent shape kind left right work₀ listing₀ entries count a bottom depth₀ types₀ work listing depth types =
+Inv-loop parent shape kind left right work₀ listing₀ entries count a depth₀ types₀ work listing depth types =
     ((length work ≡ length work₀) × (length listing ≡ length listing₀))
     × ((begun rank trail : List ℕ) (links : ℕ) (rules : List Rule) (ts₀ : List Ty) →
     Stands (table parent rank shape kind left right trail entries links) rules →
@@ -31,45 +31,27 @@ Inv-loop parent shape kind left right work₀ listing₀ entries count a bottom 
     ((ts : List Ty) × Walking (table parent rank shape kind left right trail entries links) rules begun listing₀ count ts₀ (root-in parent a) work listing (path-in work depth) types ts))
 
 abbrev μ-loop : tie.MeasureT-loop
-μ-loop parent shape kind left right work₀ listing₀ entries count a bottom depth₀ types₀ work listing depth types = 2 * unseen work entries + depth
+μ-loop parent shape kind left right work₀ listing₀ entries count a depth₀ types₀ work listing depth types = 2 * unseen work entries + depth
 
-abbrev start : tie.After-slice-known2 Inv-loop μ-loop → tie.Start Inv-loop μ-loop
-start c = c .before .before .before .before .before .before .before
+abbrev start : tie.After-open-arg Inv-loop μ-loop → tie.Start Inv-loop μ-loop
+start c = c .before .before .before .before .before .before .before .before
 
 abbrev opening : tie.At-loop Inv-loop μ-loop → tie.After-open Inv-loop μ-loop
 opening c = c .before .before .before
 
--- the representative is an entry
-low : (c : tie.After-root Inv-loop μ-loop) → c .root .result < start (c .before) .args .entries
-low c = rw (c .root .ensures) (root-live (made-good (start (c .before) .pre .0 .5 .made) .forest) _ (start (c .before) .pre .1))
-
-small : (c : tie.After-root Inv-loop μ-loop) → start (c .before) .args .entries + 1 < 2 ^ 16
-small c = start (c .before) .pre .0 .6 .types .chains .small
-
 root-requires : tie.Need-root-requires Inv-loop μ-loop
-root-requires c κs = made-rooted (start c .pre .0 .5 .made) _ (start c .pre .1)
-
-cast-if1 : tie.Need-cast-if1 Inv-loop μ-loop
-cast-if1 c = record { fits = omega (arith, low c, small c) }
-
-mul-if1 : tie.Need-mul-if1 Inv-loop μ-loop
-mul-if1 c = record { fits = omega (arith, low c, small c) }
-
-mul-if1-2 : tie.Need-mul-if1-2 Inv-loop μ-loop
-mul-if1-2 c = record { fits = omega (arith, low c, small c) }
-
-slice-read-if1 : tie.Need-slice-read-if1 Inv-loop μ-loop
-slice-read-if1 c = omega (arith, low (c .before), start (c .before .before) .pre .0 .6 .types .chains .work-room)
-
-returns : tie.Need-returns Inv-loop μ-loop
-returns c = λ rank trail links rules ts s q. visited-again s q (start (c .before .before .before) .args .a) (start (c .before .before .before) .pre .1) (λ z. c .if1 .taken (ap (mark-at (start (c .before .before .before) .args .work .now)) (c .before .before .root .ensures) ∙ z))
+root-requires c κs = made-rooted (start c .pre .0 .5 .made) _ (start c .pre .1 .0)
 
 open-requires : tie.Need-open-requires Inv-loop μ-loop
-open-requires c κs = let r = c .before .before .before in let long = start (r .before) .pre .0 .6 .types .chains .work-room in (omega (arith, low r, long), omega (arith, low r, long))
+open-requires c κs =
+    let pre = start (c .before) .pre in
+    let low : c .root .result < start (c .before) .args .entries = rw (c .root .ensures) (root-live (made-good (pre .0 .5 .made) .forest) _ (pre .1 .0)) in
+    let long = pre .0 .6 .types .chains .work-room in
+    (omega (arith, low, long), omega (arith, low, long))
 
 -- the start as the loop's head has it
 abbrev begun : tie.At-loop Inv-loop μ-loop → tie.Start Inv-loop μ-loop
-begun c = start (c .before .before .before .before .before .before .before .before)
+begun c = start (opening c .before .before)
 
 -- no class on the path
 ended : {t : Table} {rules : List Rule} {work₀ listing₀ work listing : List ℕ} {count₀ : ℕ} {ts₀ ts : List Ty} {bottom count : ℕ} (depth : ℕ) → depth ≡ 0 →
@@ -89,13 +71,11 @@ module _ (c : tie.At-loop Inv-loop μ-loop) where
       (ts : List Ty) × Walking (lent rank trail links) rules (begun c .args .work .now) (begun c .args .listing .now) (begun c .args .count) ts₀ (root-in (begun c .args .parent .now) (begun c .args .a)) (c .loop .work) (c .loop .listing) (path-in (c .loop .work) (c .loop .depth)) (c .loop .types) ts
   walking {rank} {trail} {links} {rules} {ts₀} s q =
       let a = begun c .args in
-      let bottom = c .before .before .before .before .before .before .before .root .ensures in
-      c .loop .inv .1 (a .work .now) rank trail links rules ts₀ s q (begun c .pre .1)
-      (ap (mark-at (a .work .now)) (sym bottom) ∙ c .before .before .before .before .before .if1 .left)
-      (opening c .«open» .ensures ∙ ap (opened (a .work .now) 0) bottom)
+      c .loop .inv .1 (a .work .now) rank trail links rules ts₀ s q (begun c .pre .1 .0) (begun c .pre .1 .1)
+      (opening c .«open» .ensures ∙ ap (opened (a .work .now) 0) (opening c .before .root .ensures))
 
-some : (c : tie.Else2 Inv-loop μ-loop) → 0 < c .before .loop .depth
-some c = let h = c .if2 .left in omega (arith, h)
+some : (c : tie.Else1 Inv-loop μ-loop) → 0 < c .before .loop .depth
+some c = let h = c .if1 .left in omega (arith, h)
 
 -- what a step leaves, by its answer
 module _ (c : tie.After-step Inv-loop μ-loop) where
@@ -114,7 +94,7 @@ loop-holds : tie.Need-loop-holds Inv-loop μ-loop
 loop-holds c = (
   (refl, refl),
   λ begun rank trail links rules ts₀ s q there fresh is.
-      let a = start (c .before .before .before .before .before .before .before) .args in (
+      let a = start (c .before .before .before .before) .args in (
         ts₀,
         subst (λ (w : List ℕ). Walking (table (a .parent .now) rank (a .shape .now) (a .kind .now) (a .left .now) (a .right .now) trail (a .entries) links) rules begun (a .listing .now) (a .count) ts₀ (root-in (a .parent .now) (a .a)) w (a .listing .now) (path-in w 1) (a .count) ts₀)
             (sym is) (walking-begins s q (a .a) there fresh (omega (arith, there))),
@@ -127,12 +107,12 @@ same-length c = c .before .loop .inv .0 .0 ∙ opening (c .before) .«open» .ke
 same-length-2 : tie.Need-same-length-2 Inv-loop μ-loop
 same-length-2 c = c .before .loop .inv .0 .1
 
-returns-2 : tie.Need-returns-2 Inv-loop μ-loop
-returns-2 c =
+returns : tie.Need-returns Inv-loop μ-loop
+returns c =
     λ rank trail links rules ts s q.
     let head = c .before in
     let (us, w) = walking head s q in
-    visited-done s q (begun head .args .a) (begun head .pre .1) (ended (head .loop .depth) (c .if2 .taken) w)
+    visited-done s q (begun head .args .a) (begun head .pre .1 .0) (ended (head .loop .depth) (c .if1 .taken) w)
 
 step-requires : tie.Need-step-requires Inv-loop μ-loop
 step-requires c κs =
@@ -154,12 +134,12 @@ same-length-3 c = c .before .before .before .before .before .before .step .kept 
 same-length-4 : tie.Need-same-length-4 Inv-loop μ-loop
 same-length-4 c = c .before .before .before .before .before .before .step .kept .1 .1 .1 .1 .1 .1 .0 ∙ c .before .before .before .before .before .before .before .before .before .before .loop .inv .0 .1
 
-returns-3 : tie.Need-returns-3 Inv-loop μ-loop
-returns-3 c =
+returns-2 : tie.Need-returns-2 Inv-loop μ-loop
+returns-2 c =
     λ rank trail links rules ts s q.
     let call = c .before .before .before .before .before .before in
     let (us, w) = walking (call .before .before .before .before) s q in
-    visited-endless s q (begun (call .before .before .before .before) .args .a) (begun (call .before .before .before .before) .pre .1) (left call s w Cycle (c .enum-told .given .1))
+    visited-endless s q (begun (call .before .before .before .before) .args .a) (begun (call .before .before .before .before) .pre .1 .0) (left call s w Cycle (c .enum-told .given .1))
 
 loop-less : tie.Need-loop-less Inv-loop μ-loop
 loop-less c =
@@ -188,21 +168,16 @@ visit-spec =
     Inv-loop
     μ-loop
     root-requires
-    cast-if1
-    mul-if1
-    mul-if1-2
-    slice-read-if1
-    returns
     open-requires
     loop-holds
     same-length
     same-length-2
-    returns-2
+    returns
     step-requires
     enum-known-d
     enum-told
     same-length-3
     same-length-4
-    returns-3
+    returns-2
     loop-less
     loop-again)
