@@ -55,6 +55,7 @@ pub fn job(job: &[u8], answers: &mut [u8], listing: &mut [u16]) -> Outcome
         &mut nodes,
         &mut listed,
         job,
+        HEADER,
         answers,
         live,
         (job.len() - HEADER) / EIGHT,

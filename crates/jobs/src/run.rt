@@ -3,7 +3,6 @@
 
 use formats::answers;
 use formats::header::EIGHT;
-use formats::header::HEADER;
 use formats::listing;
 use nodes::Record;
 use nodes::records;
@@ -12,16 +11,14 @@ use types::state;
 use types::state::Live;
 use types::state::Step;
 ghost use mathlib.Core.Path.{_≡_};
-ghost use mathlib.Core.List.{List, [], _++_};
-ghost use Prim.Native.Nat.{ℕ, _+_, _*_, _≤_};
+ghost use Prim.Native.Nat.{_+_, _*_, _≤_};
 ghost use lib.ListN.{length};
 ghost use Rattle.classes.specs.Table.{table};
 ghost use Rattle.nodes.specs.Layout.{Proper};
 ghost use Rattle.nodes.specs.declared.Node.{Node};
 ghost use Rattle.nodes.specs.declared.Record.the-variants.{Offer};
 ghost use Rattle.types.specs.States.{state, Opened};
-ghost use Rattle.types.specs.Closings.{no-listing};
-ghost use Rattle.jobs.specs.Putting.{Room, Put, Recorded, Ran};
+ghost use Rattle.jobs.specs.Putting.{Room, Put, Recorded, Puts};
 
 // Puts one record to the state. A closing's listing goes into `listed`.
 fn put(
@@ -83,7 +80,7 @@ fn put(
 
 // Puts the record at `from`, writes its answer at `to`, and gives the counts then. What is listed is after a record of kind 65 its
 // listing, or 0, 0, 4, 4 where it has none.
-pub fn put_bytes(
+fn put_bytes(
     parent: &mut [u16],
     rank: &mut [u16],
     shape: &mut [u16],
@@ -128,8 +125,8 @@ pub fn put_bytes(
     step.live
 }
 
-// Puts the first `count` records of a job to a fresh state.
-pub(super) fn run(
+// Puts the `count` records from `from` on, writes their answers from the start of `answers` on, and gives the counts then.
+pub fn run(
     parent: &mut [u16],
     rank: &mut [u16],
     shape: &mut [u16],
@@ -140,16 +137,19 @@ pub(super) fn run(
     work: &mut [u16],
     nodes: &mut [u16],
     listed: &mut [u16],
-    job: &[u8],
+    bytes: &[u8],
+    from: usize,
     answers: &mut [u8],
     opened: Live,
     count: usize,
-)
-    requires { ⌜ ((o : Opened 1024 (state (table (now parent) (now rank) (now shape) (now kind) (now left) (now right) (now trail) (opened .entries) (opened .links)) (now nodes) (opened .kept))) × (o .nodes ≡ [])) ⌝ }
+) -> Live
+    requires { ⌜ Opened 1024 (state (table (now parent) (now rank) (now shape) (now kind) (now left) (now right) (now trail) (opened .entries) (opened .links)) (now nodes) (opened .kept)) ⌝ }
     requires { ⌜ Room (state (table (now parent) (now rank) (now shape) (now kind) (now left) (now right) (now trail) (opened .entries) (opened .links)) (now nodes) (opened .kept)) (now work) (now listed) ⌝ }
-    requires { ⌜ (count ≤ 4096) × (16 + 8 * count ≤ length (now job)) × (8 * count ≤ length (now answers)) ⌝ }
-    requires { ⌜ ((rest : List ℕ) × (now listed ≡ no-listing ++ rest)) ⌝ }
-    ensures { λ _. ⌜ ((kept : List Node) × Ran (now (job .entry)) count (now (answers .entry)) (now (answers .exit)) (now (listed .exit)) kept) ⌝ }
+    requires { ⌜ (from + 8 * count ≤ length (now bytes)) × (8 * count ≤ length (now answers)) ⌝ }
+    ensures { λ r. ⌜ ((o : Opened 1024 (state (table (now (parent .entry)) (now (rank .entry)) (now (shape .entry)) (now (kind .entry)) (now (left .entry)) (now (right .entry)) (now (trail .entry)) (opened .entries) (opened .links)) (now (nodes .entry)) (opened .kept))) →
+        (o′ : Opened 1024 (state (table (now (parent .exit)) (now (rank .exit)) (now (shape .exit)) (now (kind .exit)) (now (left .exit)) (now (right .exit)) (now (trail .exit)) (r .entries) (r .links)) (now (nodes .exit)) (r .kept))) ×
+        Puts (now (bytes .entry)) from (state (table (now (parent .entry)) (now (rank .entry)) (now (shape .entry)) (now (kind .entry)) (now (left .entry)) (now (right .entry)) (now (trail .entry)) (opened .entries) (opened .links)) (now (nodes .entry)) (opened .kept)) o (now (listed .entry)) (now (answers .entry)) count
+        (state (table (now (parent .exit)) (now (rank .exit)) (now (shape .exit)) (now (kind .exit)) (now (left .exit)) (now (right .exit)) (now (trail .exit)) (r .entries) (r .links)) (now (nodes .exit)) (r .kept)) o′ (now (listed .exit)) (now (answers .exit))) ⌝ }
 {
     let mut live = opened;
     let mut i: usize = 0;
@@ -165,12 +165,13 @@ pub(super) fn run(
             work,
             nodes,
             listed,
-            job,
-            HEADER + EIGHT * i,
+            bytes,
+            from + EIGHT * i,
             answers,
             EIGHT * i,
             live,
         );
         i += 1;
     }
+    live
 }

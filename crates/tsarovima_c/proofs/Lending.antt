@@ -9,9 +9,9 @@ use lib.Seq.{drop-length}
 use Rattle.classes.specs.Table.{table, fresh}
 use Rattle.nodes.specs.Layout.{standing}
 use Rattle.closing.proofs.Beginning.{Clearing}
-use Rattle.types.specs.States.{state, entered, Opened}
+use Rattle.types.specs.States.{State, state, entered, Opened}
 use Rattle.types.proofs.Begun.{opened-first}
-use Rattle.jobs.specs.Putting.{Recorded}
+use Rattle.jobs.specs.Putting.{Recorded, Puts}
 use Rattle.tsarovima_c.specs.Lent.{tables, state-of, Sized, OpenedBy, Long, RecordedBy}
 
 -- a table cleared to its end is one repeated value
@@ -47,11 +47,16 @@ opened-by {p₀} {r₀} {s₀} {k₀} {l₀} {q₀} {t₀} {n₀} {v₀} {p₁} 
     subst (λ (v : List ℕ). OpenedBy (tables p₀ r₀ s₀ k₀ l₀ q₀ t₀ n₀ v₀) 0 (tables p r s k l q t n v)) (sym (three v₀ e j kept (sized .live)))
     (OpenedBy.done sized o nothing)
 
+-- one record put after none is one record put
+only-one : {bytes listed answers listed′ answers′ : List ℕ} {s s′ : State} {o : Opened 1024 s} {o′ : Opened 1024 s′} → Puts bytes 0 s o listed answers 1 s′ o′ listed′ answers′ →
+    Recorded s o bytes 0 listed answers 0 s′ listed′ answers′
+only-one (Puts.more Puts.none x) = x
+
 -- a record put, and the counts stored
 pub recorded-by : {p₀ r₀ s₀ k₀ l₀ q₀ t₀ n₀ v₀ p r s k l q t n work bytes listing listing′ answer answer′ : List ℕ} {o : Opened 1024 (state-of (tables p₀ r₀ s₀ k₀ l₀ q₀ t₀ n₀ v₀))} {e j kept : ℕ} →
     Long (tables p₀ r₀ s₀ k₀ l₀ q₀ t₀ n₀ v₀) work listing bytes answer →
-    Recorded (state-of (tables p₀ r₀ s₀ k₀ l₀ q₀ t₀ n₀ v₀)) o bytes 0 listing answer 0 (state (table p r s k l q t e j) n kept) listing′ answer′ →
+    (o′ : Opened 1024 (state (table p r s k l q t e j) n kept)) × Puts bytes 0 (state-of (tables p₀ r₀ s₀ k₀ l₀ q₀ t₀ n₀ v₀)) o listing answer 1 (state (table p r s k l q t e j) n kept) o′ listing′ answer′ →
     RecordedBy (tables p₀ r₀ s₀ k₀ l₀ q₀ t₀ n₀ v₀) o work bytes listing answer 0 (tables p r s k l q t n (set (set (set v₀ 0 e) 1 j) 2 kept)) listing′ answer′
-recorded-by {p₀} {r₀} {s₀} {k₀} {l₀} {q₀} {t₀} {n₀} {v₀} {p} {r} {s} {k} {l} {q} {t} {n} {work} {bytes} {listing} {listing′} {answer} {answer′} {o} {e} {j} {kept} long x =
+recorded-by {p₀} {r₀} {s₀} {k₀} {l₀} {q₀} {t₀} {n₀} {v₀} {p} {r} {s} {k} {l} {q} {t} {n} {work} {bytes} {listing} {listing′} {answer} {answer′} {o} {e} {j} {kept} long (o′, puts) =
     subst (λ (v : List ℕ). RecordedBy (tables p₀ r₀ s₀ k₀ l₀ q₀ t₀ n₀ v₀) o work bytes listing answer 0 (tables p r s k l q t n v) listing′ answer′) (sym (three v₀ e j kept (long .1)))
-    (RecordedBy.done long x)
+    (RecordedBy.done long (only-one puts))

@@ -178,7 +178,7 @@ pub extern "C" fn tsarovima_record(
     let entries = live[0];
     let links = live[1];
     let kept = live[2];
-    let then = run::put_bytes(
+    let then = run::run(
         parent,
         rank,
         shape,
@@ -192,12 +192,12 @@ pub extern "C" fn tsarovima_record(
         bytes,
         0,
         answer,
-        0,
         Live {
             entries,
             links,
             kept,
         },
+        1,
     );
     live[0] = then.entries;
     live[1] = then.links;

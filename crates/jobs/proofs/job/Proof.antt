@@ -14,6 +14,7 @@ use Rattle.formats.specs.declared.header.Outcome.the-variants.{Done}
 use Rattle.formats.proofs.header.Outcome.{the-type}
 use Rattle.formats.proofs.Judging.{Ready, ready}
 use Rattle.jobs.specs.Jobs.{Job}
+use Rattle.jobs.proofs.Running.{ran}
 use Rattle.jobs.proofs.Finishing.{can-be-shown, finished}
 use borrow.Author.Needs.{needs}
 use Rattle.jobs.proofs.job.Statement.{statement}
@@ -111,17 +112,14 @@ run-requires c κs =
     let opens = c .before .before .before .before .before .before .before .before .before .before .before .before .before .before .before .before .before .before .before .before .open in
     let clear = c .before .before .before .before .before .before .before .before .before .before .before .before .clear in
     let ready = ready-at (told c) in (
-      opened-first 1024 8225 (omega arith) (omega arith) (opens .ensures .0) (opens .ensures .1),
+      opened-first 1024 8225 (omega arith) (omega arith) (opens .ensures .0) (opens .ensures .1) .0,
       (
         record {
           pairs = omega (arith, opens .kept .0, length-replicate {A = ℕ} 8225 0, length-replicate {A = ℕ} 32900 0);
           marks = omega (arith, length-replicate {A = ℕ} 32900 0);
           numbers = omega (arith, clear .kept .0, length-replicate {A = ℕ} 26727 0);
         },
-        (
-          (omega (arith, ready .long, ready .few), omega (arith, ready .long), omega (arith, ready .long, ready .room)),
-          (_, clear .ensures),
-        ),
+        (omega (arith, ready .long), omega (arith, ready .long, ready .room)),
       ),
     )
 
@@ -131,9 +129,10 @@ slice-aggregate-show c = search needs
 show-requires : tie.Need-show-requires
 show-requires c κs =
     let run = c .before .before .before .before .before .before .before .before .before .before .before .before .before .before in
-    can-be-shown (run .run .ensures .1)
-    (run .run .kept .1 .1 .1 .1 .1 .1 .1 .1 .1 .0 ∙ run .before .before .before .before .before .before .before .before .before .before .before .before .before .clear .kept .0 ∙ length-replicate {A = ℕ} 26727 0)
-    (ready-at (told (run .before)) .numbers)
+    let opens = run .before .before .before .before .before .before .before .before .before .before .before .before .before .before .before .before .before .before .before .before .before .open in
+    let clear = run .before .before .before .before .before .before .before .before .before .before .before .before .before .clear in
+    let (kept, r) = ran (opened-first 1024 8225 (omega arith) (omega arith) (opens .ensures .0) (opens .ensures .1)) (clear .ensures) (run .run .ensures) in
+    can-be-shown r (run .run .kept .1 .1 .1 .1 .1 .1 .1 .1 .1 .0 ∙ clear .kept .0 ∙ length-replicate {A = ℕ} 26727 0) (ready-at (told (run .before)) .numbers)
 
 same-length : tie.Need-same-length
 same-length c = search needs
@@ -145,7 +144,10 @@ returns-2 : tie.Need-returns-2
 returns-2 c =
     let run = c .before .before .before .before .before .before .before .before .before .before .before .before .before .before .before .before .before in
     let at = told (run .before) in
-    finished (run .run .ensures .1) (done-at at) (omega (arith, ready-at at .long)) (c .before .before .show .ensures)
+    let opens = run .before .before .before .before .before .before .before .before .before .before .before .before .before .before .before .before .before .before .before .before .before .open in
+    let clear = run .before .before .before .before .before .before .before .before .before .before .before .before .before .clear in
+    let (kept, r) = ran (opened-first 1024 8225 (omega arith) (omega arith) (opens .ensures .0) (opens .ensures .1)) (clear .ensures) (run .run .ensures) in
+    finished r (done-at at) (omega (arith, ready-at at .long)) (c .before .before .show .ensures)
 
 pub job-spec : {M : Type 1} → statement M
 job-spec =

@@ -1,4 +1,4 @@
--- `tsarovima_c::tsarovima_record` meets its contract: what putting a record from its bytes promises, with the counts stored.
+-- `tsarovima_c::tsarovima_record` meets its contract: what putting one record promises, with the counts stored.
 use native.Mathlib.Omega.{arith}
 use lib.ListN.{length-set}
 use Rattle.tsarovima_c.specs.Lent.{RecordedBy}
@@ -22,10 +22,10 @@ slice-read-links c = omega (arith, (c .before .before .before .wrong-length .ens
 slice-read-kept : tie.Need-slice-read-kept
 slice-read-kept c = omega (arith, (c .before .before .before .before .wrong-length .ensures .1 (c .before .before .before .if1 .left)) .1)
 
-put-bytes-requires : tie.Need-put-bytes-requires
-put-bytes-requires c κs =
+run-requires : tie.Need-run-requires
+run-requires c κs =
     let h = c .before .before .before .before .before .before .before .before .before .before .before .before .before .before .before .wrong-length .ensures .1 (c .before .before .before .before .before .before .before .before .before .before .before .before .before .before .if1 .left) in
-    (c .before .before .before .before .before .before .before .before .before .before .before .before .before .before .before .before .before .before .before .before .before .before .before .before .before .before .before .before .before .pre, (record { pairs = omega (arith, h .0, h .2); marks = h .2; numbers = h .3 }, (h .4, h .5)))
+    (c .before .before .before .before .before .before .before .before .before .before .before .before .before .before .before .before .before .before .before .before .before .before .before .before .before .before .before .before .before .pre, (record { pairs = omega (arith, h .0, h .2); marks = h .2; numbers = h .3 }, (omega (arith, h .4), omega (arith, h .5))))
 
 slice-write-live : tie.Need-slice-write-live
 slice-write-live c = omega (arith, (c .before .before .before .before .before .before .before .before .before .before .before .before .before .before .before .before .before .before .before .before .before .before .before .before .before .before .before .before .before .before .before .before .before .before .before .before .before .before .wrong-length .ensures .1 (c .before .before .before .before .before .before .before .before .before .before .before .before .before .before .before .before .before .before .before .before .before .before .before .before .before .before .before .before .before .before .before .before .before .before .before .before .before .if1 .left)) .1)
@@ -75,7 +75,7 @@ same-length-12 c = search needs
 returns-2 : tie.Need-returns-2
 returns-2 c =
     let h = c .before .before .before .before .before .before .before .before .before .before .before .before .before .before .before .before .before .before .before .before .before .before .before .before .before .before .before .before .before .before .before .before .before .before .before .before .before .before .wrong-length .ensures .1 (c .before .before .before .before .before .before .before .before .before .before .before .before .before .before .before .before .before .before .before .before .before .before .before .before .before .before .before .before .before .before .before .before .before .before .before .before .before .if1 .left) in
-    λ o. recorded-by h (c .before .before .before .before .before .before .before .before .before .before .before .before .before .before .before .before .before .before .before .before .before .before .put-bytes .ensures o)
+    λ o. recorded-by h (c .before .before .before .before .before .before .before .before .before .before .before .before .before .before .before .before .before .before .before .before .before .before .run .ensures o)
 
 pub tsarovima-record-spec : {M : Type 1} → statement M
 tsarovima-record-spec =
@@ -86,7 +86,7 @@ tsarovima-record-spec =
     slice-read-entries
     slice-read-links
     slice-read-kept
-    put-bytes-requires
+    run-requires
     slice-write-live
     slice-write-live-2
     slice-write-live-3

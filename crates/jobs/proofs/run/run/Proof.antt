@@ -1,54 +1,68 @@
--- `jobs::run::run` meets its contract. The invariant: the records so far are run, and the slices are as long as they were. The measure is how many are left.
-use mathlib.Core.Path.{_≡_, refl, sym, _∙_, subst}
-use Prim.Native.Nat.{ℕ, _-_, _≤_, zero-le}
+-- `jobs::run::run` meets its contract. The invariant: the records so far are put, and the slices are as long as they were. The measure is how many are left.
+use mathlib.Core.Path.{_≡_, refl, _∙_, subst}
+use mathlib.Core.List.{List}
+use Prim.Native.Nat.{ℕ, _+_, _*_, _-_, _≤_, zero-le}
 use native.Mathlib.Nat.{le-antisymm}
+use native.Mathlib.Numerals.{add-one}
 use native.Mathlib.Omega.{arith}
 use lib.ListN.{length}
 use Rattle.classes.specs.Table.{table}
-use Rattle.types.specs.States.{state, Opened}
-use Rattle.jobs.specs.Putting.{Ran}
-use Rattle.jobs.proofs.Running.{ran-begins, ran-more}
+use Rattle.types.specs.States.{State, state, Opened}
+use Rattle.jobs.specs.Putting.{Recorded, Puts}
 use Rattle.jobs.proofs.run.run.Statement.{statement}
 use Rattle.jobs.proofs.run.run.Tie as tie
 
+module _ {bytes listed answers listed₁ answers₁ : List ℕ} {from : ℕ} {s s₁ : State} {o : Opened 1024 s} {o₁ : Opened 1024 s₁} {n : ℕ} (puts : Puts bytes from s o listed answers n s₁ o₁ listed₁ answers₁) where
+  -- the loop counts with a sum
+  one-more : {s₂ : State} {listed₂ answers₂ : List ℕ} (x : Recorded s₁ o₁ bytes (from + 8 * n) listed₁ answers₁ (8 * n) s₂ listed₂ answers₂) →
+      Puts bytes from s o listed answers (n + 1) s₂ (x .called .after) listed₂ answers₂
+  one-more x = rw (add-one n) (Puts.more puts x)
+
+  all-put : {count : ℕ} → n ≡ count → Puts bytes from s o listed answers count s₁ o₁ listed₁ answers₁
+  all-put all = subst (λ (k : ℕ). Puts bytes from s o listed answers k s₁ o₁ listed₁ answers₁) all puts
+
 abbrev Inv-loop : tie.InvT-loop
-Inv-loop parent₀ rank₀ shape₀ kind₀ left₀ right₀ trail₀ work₀ nodes₀ listed₀ job answers₀ count live₀ i₀ parent rank shape kind left right trail work nodes listed answers live i =
-    ((o : Opened 1024 (state (table parent rank shape kind left right trail (live .entries) (live .links)) nodes (live .kept))) × Ran job i answers₀ answers listed (o .nodes))
+Inv-loop parent₀ rank₀ shape₀ kind₀ left₀ right₀ trail₀ work₀ nodes₀ listed₀ bytes from answers₀ count live₀ i₀ parent rank shape kind left right trail work nodes listed answers live i =
+    ((o : Opened 1024 (state (table parent₀ rank₀ shape₀ kind₀ left₀ right₀ trail₀ (live₀ .entries) (live₀ .links)) nodes₀ (live₀ .kept))) →
+    (o′ : Opened 1024 (state (table parent rank shape kind left right trail (live .entries) (live .links)) nodes (live .kept)))
+    × Puts bytes from (state (table parent₀ rank₀ shape₀ kind₀ left₀ right₀ trail₀ (live₀ .entries) (live₀ .links)) nodes₀ (live₀ .kept)) o listed₀ answers₀ i (state (table parent rank shape kind left right trail (live .entries) (live .links)) nodes (live .kept)) o′ listed answers)
     × ((length parent ≡ length parent₀) × (length rank ≡ length rank₀) × (length shape ≡ length shape₀) × (length kind ≡ length kind₀) × (length left ≡ length left₀) × (length right ≡ length right₀) × (length trail ≡ length trail₀) × (length work ≡ length work₀) × (length nodes ≡ length nodes₀) × (length listed ≡ length listed₀) × (length answers ≡ length answers₀))
     × (i ≤ count)
 
 abbrev μ-loop : tie.MeasureT-loop
-μ-loop parent₀ rank₀ shape₀ kind₀ left₀ right₀ trail₀ work₀ nodes₀ listed₀ job answers₀ count live₀ i₀ parent rank shape kind left right trail work nodes listed answers live i = count - i
+μ-loop parent₀ rank₀ shape₀ kind₀ left₀ right₀ trail₀ work₀ nodes₀ listed₀ bytes from answers₀ count live₀ i₀ parent rank shape kind left right trail work nodes listed answers live i = count - i
 
 loop-holds : tie.Need-loop-holds Inv-loop μ-loop
-loop-holds c =
-    let start = c .before .before .before .before .before .before .before .before .before .before .before .before in
-    let (o, none) = start .pre .0 in
-    let (rest, is) = start .pre .1 .1 .1 in
-    ((o, subst (Ran (start .args .job .now) 0 (start .args .answers .now) (start .args .answers .now) (start .args .listed .now)) (sym none) (ran-begins _ _ _ rest is)), (refl, refl, refl, refl, refl, refl, refl, refl, refl, refl, refl), zero-le)
+loop-holds c = (λ o. (o, Puts.none), (refl, refl, refl, refl, refl, refl, refl, refl, refl, refl, refl), zero-le)
 
 mul-put-bytes : tie.Need-mul-put-bytes Inv-loop μ-loop
-mul-put-bytes c = omega (arith, c .before .before .before .before .before .before .before .before .before .before .loop-test .taken, c .before .before .before .before .before .before .before .before .before .before .before .before .before .before .before .before .before .before .before .before .before .before .before .before .pre .1 .1 .0 .0)
+mul-put-bytes c =
+    let start = c .before .before .before .before .before .before .before .before .before .before .before .before .before .before .before .before .before .before .before .before .before .before .before .before in
+    omega (arith, c .before .before .before .before .before .before .before .before .before .before .loop-test .taken, start .pre .1 .1 .0, start .good .1 .1 .1 .1 .1 .1 .1 .1 .1 .1 .0 .1)
 
 add-put-bytes : tie.Need-add-put-bytes Inv-loop μ-loop
-add-put-bytes c = omega (arith, c .before .before .before .before .before .before .before .before .before .before .loop-test .taken, c .before .before .before .before .before .before .before .before .before .before .before .before .before .before .before .before .before .before .before .before .before .before .before .before .pre .1 .1 .0 .0)
+add-put-bytes c =
+    let start = c .before .before .before .before .before .before .before .before .before .before .before .before .before .before .before .before .before .before .before .before .before .before .before .before in
+    omega (arith, c .before .before .before .before .before .before .before .before .before .before .loop-test .taken, start .pre .1 .1 .0, start .good .1 .1 .1 .1 .1 .1 .1 .1 .1 .1 .0 .1)
 
 mul-put-bytes-2 : tie.Need-mul-put-bytes-2 Inv-loop μ-loop
-mul-put-bytes-2 c = omega (arith, c .before .before .before .before .before .before .before .before .before .before .before .loop-test .taken, c .before .before .before .before .before .before .before .before .before .before .before .before .before .before .before .before .before .before .before .before .before .before .before .before .before .pre .1 .1 .0 .0)
+mul-put-bytes-2 c =
+    let start = c .before .before .before .before .before .before .before .before .before .before .before .before .before .before .before .before .before .before .before .before .before .before .before .before .before in
+    omega (arith, c .before .before .before .before .before .before .before .before .before .before .before .loop-test .taken, start .pre .1 .1 .0, start .good .1 .1 .1 .1 .1 .1 .1 .1 .1 .1 .0 .1)
 
 put-bytes-requires : tie.Need-put-bytes-requires Inv-loop μ-loop
 put-bytes-requires c κs =
     let inv = c .before .before .before .before .before .before .before .before .before .before .before .before .loop .inv in
     let low = c .before .before .before .before .before .before .before .before .before .before .before .loop-test .taken in
     let start = c .before .before .before .before .before .before .before .before .before .before .before .before .before .before .before .before .before .before .before .before .before .before .before .before .before in (
-      inv .0 .0,
+      inv .0 (start .pre .0) .0,
       (
         record {
           pairs = omega (arith, start .pre .1 .0 .pairs, inv .1 .0, inv .1 .7);
           marks = omega (arith, start .pre .1 .0 .marks, inv .1 .7);
           numbers = omega (arith, start .pre .1 .0 .numbers, inv .1 .9);
         },
-        (omega (arith, low, start .pre .1 .1 .0 .1), omega (arith, low, start .pre .1 .1 .0 .2, inv .1 .10)),
+        (omega (arith, low, start .pre .1 .1 .0), omega (arith, low, start .pre .1 .1 .1, inv .1 .10)),
       ),
     )
 
@@ -61,9 +75,11 @@ loop-less c = omega (arith, c .before .before .before .before .before .before .b
 loop-again : tie.Need-loop-again Inv-loop μ-loop
 loop-again c =
     let p = c .before .before .before .before .before .before .before .before .before .before .before .before .before .before .before .before .before .before .before .before .before .before in
-    let inv = p .before .before .before .before .before .before .before .before .before .before .before .before .before .loop .inv in
-    let x = p .put-bytes .ensures (inv .0 .0) in (
-      (x .called .after, ran-more (inv .0 .1) x),
+    let inv = p .before .before .before .before .before .before .before .before .before .before .before .before .before .loop .inv in (
+      λ o.
+          let (o₁, puts) = inv .0 o in
+          let x = p .put-bytes .ensures o₁ in
+          (x .called .after, one-more puts x),
       (
         p .put-bytes .kept .0 ∙ inv .1 .0,
         p .put-bytes .kept .1 .0 ∙ inv .1 .1,
@@ -116,9 +132,9 @@ same-length-11 c = c .before .loop .inv .1 .10
 returns : tie.Need-returns Inv-loop μ-loop
 returns c =
     let inv = c .before .loop .inv in
-    let start = c .before .before .before .before .before .before .before .before .before .before .before .before .before .before in
-    let all = le-antisymm (inv .2) (c .loop-test .left) in
-    (inv .0 .0 .nodes, subst (λ (n : ℕ). Ran (start .args .job .now) n (start .args .answers .now) (c .before .loop .answers) (c .before .loop .listed) (inv .0 .0 .nodes)) all (inv .0 .1))
+    λ o.
+    let (o′, puts) = inv .0 o in
+    (o′, all-put puts (le-antisymm (inv .2) (c .loop-test .left)))
 
 pub run-spec : {M : Type 1} → statement M
 run-spec =
