@@ -6,10 +6,10 @@ use native.Mathlib.Omega.{arith}
 use lib.ListN.{length, set, drop, replicate, length-replicate, length-drop, getD-replicate}
 use lib.Seq.{ext-getD, getD-drop}
 use Rattle.nodes.specs.declared.Node.{Node}
-use Rattle.nodes.specs.declared.Record.the-variants.{Close}
+use Rattle.nodes.specs.declared.Record.the-variants.{Offer, Close}
 use Rattle.types.specs.Answers.{Answered}
 use Rattle.types.specs.Closings.{no-listing, Lists}
-use Rattle.types.specs.Calls.{Closing}
+use Rattle.types.specs.Calls.{Called, Closing}
 use Rattle.calls.specs.Handed.{Handed}
 use Rattle.types.specs.States.{State, Opened}
 use Rattle.types.specs.declared.Answer.{Answer}
@@ -69,3 +69,7 @@ module _ {s : State} (o : Opened 1024 s) where
 -- no second listing is handed out
 pub handed-once : {size : ℕ} {kept : List Node} {numbers numbers′ : List ℕ} → Handed size kept numbers → Handed size kept numbers′ → numbers ≡ numbers′
 handed-once {size} a b = a .are ∙ ap (λ (l : List ℕ). l ++ replicate (size - length l) 0) (lists-once (a .lists) (b .lists)) ∙ sym (b .are)
+
+-- an offer of the same node
+pub same-offer : {s s′ : State} {o : Opened 1024 s} {a : Answer} {n m : Node} → m ≡ n → Called 1024 s o (Offer m) a s′ → Called 1024 s o (Offer n) a s′
+same-offer {s} {s′} {o} {a} is c = subst (λ (x : Node). Called 1024 s o (Offer x) a s′) is c

@@ -1,6 +1,8 @@
 // The record calls on a state by value: the tables as arrays of numbers with their live counts, for at most 1,024 nodes.
 // Each call lends the arrays to the core once and builds the state again. A job uses the core itself, which copies nothing.
 
+use nodes::Coded;
+use nodes::Kind;
 use nodes::Node;
 use nodes::records::LARGEST_WORD;
 use types::Answer;
@@ -17,6 +19,7 @@ ghost use mathlib.Core.List.{[]};
 ghost use Prim.Native.Nat.{_≤_};
 ghost use lib.ListN.{length, set};
 ghost use Rattle.nodes.specs.Layout.{word-of};
+ghost use Rattle.nodes.specs.Coded.{node-of, Regular};
 ghost use Rattle.types.specs.States.{Opened};
 ghost use Rattle.calls.specs.Values.{state-of};
 ghost use Rattle.types.specs.Calls.{Called};
@@ -105,6 +108,36 @@ fn word_of(n: Node) -> u16
     }
 }
 
+fn numbers(kind: Kind, a: u16, b: u16) -> Coded
+    ensures { λ r. ⌜ (r .kind ≡ kind) × (r .a ≡ a) × (r .b ≡ b) ⌝ }
+{
+    Coded { kind, a, b }
+}
+
+// A node as the core takes it.
+fn coded(n: Node) -> Coded
+    ensures { λ r. ⌜ (node-of r ≡ n) × Regular r ⌝ }
+{
+    match n {
+        Node::Iden => numbers(Kind::Iden, 0, 0),
+        Node::Unit => numbers(Kind::Unit, 0, 0),
+        Node::InjL(i) => numbers(Kind::InjL, i, 0),
+        Node::InjR(i) => numbers(Kind::InjR, i, 0),
+        Node::Take(i) => numbers(Kind::Take, i, 0),
+        Node::Drop(i) => numbers(Kind::Drop, i, 0),
+        Node::Comp(i, j) => numbers(Kind::Comp, i, j),
+        Node::Case(i, j) => numbers(Kind::Case, i, j),
+        Node::AssertL(i) => numbers(Kind::AssertL, i, 0),
+        Node::AssertR(i) => numbers(Kind::AssertR, i, 0),
+        Node::Pair(i, j) => numbers(Kind::Pair, i, j),
+        Node::Disconnect(i, j) => numbers(Kind::Disconnect, i, j),
+        Node::DisconnectHole(i) => numbers(Kind::DisconnectHole, i, 0),
+        Node::Witness => numbers(Kind::Witness, 0, 0),
+        Node::Fail => numbers(Kind::Fail, 0, 0),
+        Node::Word(n) => numbers(Kind::Word, n, 0),
+    }
+}
+
 // Offers a node: the checks in the order 1, 3, 2, 4.
 pub fn offer(s: State, n: Node) -> Put
     requires { ⌜ Opened 1024 (state-of s) ⌝ }
@@ -137,7 +170,7 @@ pub fn offer(s: State, n: Node) -> Put
         &mut pending,
         &mut nodes,
         live,
-        n,
+        coded(n),
     );
     let answer = step.answer;
     let live = step.live;

@@ -4,7 +4,7 @@
 use formats::answers;
 use formats::header::EIGHT;
 use formats::listing;
-use nodes::Record;
+use nodes::Asks;
 use nodes::records;
 use types::Answer;
 use types::state;
@@ -14,13 +14,11 @@ ghost use mathlib.Core.Path.{_≡_};
 ghost use Prim.Native.Nat.{_+_, _*_, _≤_};
 ghost use lib.ListN.{length};
 ghost use Rattle.classes.specs.Table.{table};
-ghost use Rattle.nodes.specs.Layout.{Proper};
-ghost use Rattle.nodes.specs.declared.Node.{Node};
-ghost use Rattle.nodes.specs.declared.Record.the-variants.{Offer};
+ghost use Rattle.nodes.specs.Records.{record-at};
 ghost use Rattle.types.specs.States.{state, Opened};
 ghost use Rattle.jobs.specs.Putting.{Room, Put, Recorded, Puts};
 
-// Puts one record to the state. A closing's listing goes into `listed`.
+// Puts the record at `from` to the state. A closing's listing goes into `listed`.
 fn put(
     parent: &mut [u16],
     rank: &mut [u16],
@@ -33,16 +31,17 @@ fn put(
     nodes: &mut [u16],
     listed: &mut [u16],
     live: Live,
-    asked: Record,
+    bytes: &[u8],
+    from: usize,
 ) -> Step
     requires { ⌜ Opened 1024 (state (table (now parent) (now rank) (now shape) (now kind) (now left) (now right) (now trail) (live .entries) (live .links)) (now nodes) (live .kept)) ⌝ }
-    requires { ⌜ ((n : Node) → asked ≡ Offer n → Proper n) × Room (state (table (now parent) (now rank) (now shape) (now kind) (now left) (now right) (now trail) (live .entries) (live .links)) (now nodes) (live .kept)) (now work) (now listed) ⌝ }
+    requires { ⌜ (from + 8 ≤ length (now bytes)) × Room (state (table (now parent) (now rank) (now shape) (now kind) (now left) (now right) (now trail) (live .entries) (live .links)) (now nodes) (live .kept)) (now work) (now listed) ⌝ }
     ensures { λ r. ⌜ ((o : Opened 1024 (state (table (now (parent .entry)) (now (rank .entry)) (now (shape .entry)) (now (kind .entry)) (now (left .entry)) (now (right .entry)) (now (trail .entry)) (live .entries) (live .links)) (now (nodes .entry)) (live .kept))) →
-        Put (state (table (now (parent .entry)) (now (rank .entry)) (now (shape .entry)) (now (kind .entry)) (now (left .entry)) (now (right .entry)) (now (trail .entry)) (live .entries) (live .links)) (now (nodes .entry)) (live .kept)) o asked (now (listed .entry)) (r .answer)
+        Put (state (table (now (parent .entry)) (now (rank .entry)) (now (shape .entry)) (now (kind .entry)) (now (left .entry)) (now (right .entry)) (now (trail .entry)) (live .entries) (live .links)) (now (nodes .entry)) (live .kept)) o (record-at (now (bytes .entry)) from) (now (listed .entry)) (r .answer)
         (state (table (now (parent .exit)) (now (rank .exit)) (now (shape .exit)) (now (kind .exit)) (now (left .exit)) (now (right .exit)) (now (trail .exit)) (r .live .entries) (r .live .links)) (now (nodes .exit)) (r .live .kept)) (now (listed .exit))) ⌝ }
 {
-    match asked {
-        Record::Offer(n) => state::offer(
+    match records::asked(bytes, from) {
+        Asks::Offer => state::offer(
             parent,
             rank,
             shape,
@@ -53,9 +52,9 @@ fn put(
             work,
             nodes,
             live,
-            n,
+            records::node_at(bytes, from),
         ),
-        Record::TakeBack(to) => state::take_back(
+        Asks::TakeBack => state::take_back(
             parent,
             rank,
             shape,
@@ -65,13 +64,13 @@ fn put(
             trail,
             nodes,
             live,
-            to,
+            records::first(bytes, from),
         ),
-        Record::Close => {
+        Asks::Close => {
             let answer = state::close(parent, shape, kind, left, right, nodes, work, listed, live);
             Step { answer, live }
         }
-        Record::Malformed => Step {
+        Asks::Malformed => Step {
             answer: Answer::Malformed,
             live,
         },
@@ -117,7 +116,8 @@ fn put_bytes(
         nodes,
         listed,
         live,
-        records::decode(bytes, from),
+        bytes,
+        from,
     );
     let answer = step.answer;
     answers::write(answers, to, answer);

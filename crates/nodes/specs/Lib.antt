@@ -1,5 +1,6 @@
 -- What a reader must believe of nodes and records, in reading order.
 pub mod Layout
 pub mod Records
+pub mod Coded
 pub mod Texts
 pub mod Meant

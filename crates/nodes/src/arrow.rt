@@ -3,7 +3,8 @@
 // table: the new entries in order, the rules in order, the node's own arrow. Entries and rules are worked out one at a time, when
 // they are asked for, so a node pays for no more than it adds. No table is touched here.
 
-use super::Node;
+use super::Coded;
+use super::Kind;
 use classes::Bound;
 ghost use mathlib.Core.Path.{_≡_};
 ghost use mathlib.Core.List.{[], _∷_};
@@ -29,7 +30,7 @@ pub struct Rule {
 
 // A node with its children's arrows and the number of the next entry: all that what it adds depends on.
 pub struct Adds {
-    pub node: Node,
+    pub node: Coded,
     pub s: Arrow,
     pub t: Arrow,
     pub e: u16,
@@ -57,23 +58,24 @@ pub fn entry_count(row: Adds) -> u16
     ensures { λ r. ⌜ r ≡ length (meant row .entries) ⌝ }
 {
     let node = row.node;
-    match node {
-        Node::Iden => 1,
-        Node::Unit => 1,
-        Node::InjL(_) => 2,
-        Node::InjR(_) => 2,
-        Node::Take(_) => 2,
-        Node::Drop(_) => 2,
-        Node::Comp(_, _) => 0,
-        Node::Case(_, _) => 8,
-        Node::AssertL(_) => 7,
-        Node::AssertR(_) => 7,
-        Node::Pair(_, _) => 1,
-        Node::Disconnect(_, _) => 5,
-        Node::DisconnectHole(_) => 7,
-        Node::Witness => 2,
-        Node::Fail => 2,
-        Node::Word(_) => 0,
+    let kind = node.kind;
+    match kind {
+        Kind::Iden => 1,
+        Kind::Unit => 1,
+        Kind::InjL => 2,
+        Kind::InjR => 2,
+        Kind::Take => 2,
+        Kind::Drop => 2,
+        Kind::Comp => 0,
+        Kind::Case => 8,
+        Kind::AssertL => 7,
+        Kind::AssertR => 7,
+        Kind::Pair => 1,
+        Kind::Disconnect => 5,
+        Kind::DisconnectHole => 7,
+        Kind::Witness => 2,
+        Kind::Fail => 2,
+        Kind::Word => 0,
     }
 }
 
@@ -138,31 +140,27 @@ pub fn entry_at(row: Adds, i: u16) -> Bound
     ensures { λ r. ⌜ r ≡ getD (meant row .entries) i Free ⌝ }
 {
     let node = row.node;
+    let kind = node.kind;
     let s = row.s;
     let t = row.t;
     let e = row.e;
-    match node {
-        Node::Iden => Bound::Free,
-        Node::Unit => Bound::Free,
-        Node::InjL(_) => free_then(Bound::Sum(s.target, e), i),
-        Node::InjR(_) => free_then(Bound::Sum(e, s.target), i),
-        Node::Take(_) => free_then(Bound::Product(s.source, e), i),
-        Node::Drop(_) => free_then(Bound::Product(e, s.source), i),
-        Node::Comp(_, _) => Bound::Free,
-        Node::Case(_, _) => case_entry(
-            e,
-            Bound::Product(e, e + 2),
-            Bound::Product(e + 1, e + 2),
-            i,
-        ),
-        Node::AssertL(_) => case_entry(e, Bound::Product(e, e + 2), Bound::Free, i),
-        Node::AssertR(_) => case_entry(e, Bound::Product(e + 1, e + 2), Bound::Free, i),
-        Node::Pair(_, _) => Bound::Product(s.target, t.target),
-        Node::Disconnect(_, _) => disconnect_entry(e, t, i),
-        Node::DisconnectHole(_) => hole_entry(e, i),
-        Node::Witness => Bound::Free,
-        Node::Fail => Bound::Free,
-        Node::Word(_) => Bound::Free,
+    match kind {
+        Kind::Iden => Bound::Free,
+        Kind::Unit => Bound::Free,
+        Kind::InjL => free_then(Bound::Sum(s.target, e), i),
+        Kind::InjR => free_then(Bound::Sum(e, s.target), i),
+        Kind::Take => free_then(Bound::Product(s.source, e), i),
+        Kind::Drop => free_then(Bound::Product(e, s.source), i),
+        Kind::Comp => Bound::Free,
+        Kind::Case => case_entry(e, Bound::Product(e, e + 2), Bound::Product(e + 1, e + 2), i),
+        Kind::AssertL => case_entry(e, Bound::Product(e, e + 2), Bound::Free, i),
+        Kind::AssertR => case_entry(e, Bound::Product(e + 1, e + 2), Bound::Free, i),
+        Kind::Pair => Bound::Product(s.target, t.target),
+        Kind::Disconnect => disconnect_entry(e, t, i),
+        Kind::DisconnectHole => hole_entry(e, i),
+        Kind::Witness => Bound::Free,
+        Kind::Fail => Bound::Free,
+        Kind::Word => Bound::Free,
     }
 }
 
@@ -171,23 +169,24 @@ pub fn rule_count(row: Adds) -> u16
     ensures { λ r. ⌜ r ≡ length (meant row .needs) ⌝ }
 {
     let node = row.node;
-    match node {
-        Node::Iden => 0,
-        Node::Unit => 0,
-        Node::InjL(_) => 0,
-        Node::InjR(_) => 0,
-        Node::Take(_) => 0,
-        Node::Drop(_) => 0,
-        Node::Comp(_, _) => 1,
-        Node::Case(_, _) => 4,
-        Node::AssertL(_) => 2,
-        Node::AssertR(_) => 2,
-        Node::Pair(_, _) => 1,
-        Node::Disconnect(_, _) => 2,
-        Node::DisconnectHole(_) => 2,
-        Node::Witness => 0,
-        Node::Fail => 0,
-        Node::Word(_) => 0,
+    let kind = node.kind;
+    match kind {
+        Kind::Iden => 0,
+        Kind::Unit => 0,
+        Kind::InjL => 0,
+        Kind::InjR => 0,
+        Kind::Take => 0,
+        Kind::Drop => 0,
+        Kind::Comp => 1,
+        Kind::Case => 4,
+        Kind::AssertL => 2,
+        Kind::AssertR => 2,
+        Kind::Pair => 1,
+        Kind::Disconnect => 2,
+        Kind::DisconnectHole => 2,
+        Kind::Witness => 0,
+        Kind::Fail => 0,
+        Kind::Word => 0,
     }
 }
 
@@ -234,26 +233,27 @@ pub fn rule_at(row: Adds, i: u16) -> Rule
     ensures { λ r. ⌜ meant-rule r ≡ getD (meant row .needs) i (says 0 0 0) ⌝ }
 {
     let node = row.node;
+    let kind = node.kind;
     let s = row.s;
     let t = row.t;
     let e = row.e;
-    match node {
-        Node::Iden => says(0, 0, 0),
-        Node::Unit => says(0, 0, 0),
-        Node::InjL(_) => says(0, 0, 0),
-        Node::InjR(_) => says(0, 0, 0),
-        Node::Take(_) => says(0, 0, 0),
-        Node::Drop(_) => says(0, 0, 0),
-        Node::Comp(_, _) => says(1, s.target, t.source),
-        Node::Case(_, _) => case_rule(s, t, e, i),
-        Node::AssertL(_) => half_rule(3, s, e, i),
-        Node::AssertR(_) => half_rule(4, s, e, i),
-        Node::Pair(_, _) => says(2, s.source, t.source),
-        Node::Disconnect(_, _) => disconnect_rule(s, e + 2, e + 3, i),
-        Node::DisconnectHole(_) => disconnect_rule(s, e + 4, e + 5, i),
-        Node::Witness => says(0, 0, 0),
-        Node::Fail => says(0, 0, 0),
-        Node::Word(_) => says(0, 0, 0),
+    match kind {
+        Kind::Iden => says(0, 0, 0),
+        Kind::Unit => says(0, 0, 0),
+        Kind::InjL => says(0, 0, 0),
+        Kind::InjR => says(0, 0, 0),
+        Kind::Take => says(0, 0, 0),
+        Kind::Drop => says(0, 0, 0),
+        Kind::Comp => says(1, s.target, t.source),
+        Kind::Case => case_rule(s, t, e, i),
+        Kind::AssertL => half_rule(3, s, e, i),
+        Kind::AssertR => half_rule(4, s, e, i),
+        Kind::Pair => says(2, s.source, t.source),
+        Kind::Disconnect => disconnect_rule(s, e + 2, e + 3, i),
+        Kind::DisconnectHole => disconnect_rule(s, e + 4, e + 5, i),
+        Kind::Witness => says(0, 0, 0),
+        Kind::Fail => says(0, 0, 0),
+        Kind::Word => says(0, 0, 0),
     }
 }
 
@@ -263,25 +263,26 @@ pub fn gives(row: Adds) -> Arrow
     ensures { λ r. ⌜ r ≡ meant row .gives ⌝ }
 {
     let node = row.node;
+    let kind = node.kind;
     let s = row.s;
     let t = row.t;
     let e = row.e;
-    match node {
-        Node::Iden => from_to(e, e),
-        Node::Unit => from_to(e, ONE),
-        Node::InjL(_) => from_to(s.source, e + 1),
-        Node::InjR(_) => from_to(s.source, e + 1),
-        Node::Take(_) => from_to(e + 1, s.target),
-        Node::Drop(_) => from_to(e + 1, s.target),
-        Node::Comp(_, _) => from_to(s.source, t.target),
-        Node::Case(_, _) => from_to(e + 5, e + 3),
-        Node::AssertL(_) => from_to(e + 5, e + 3),
-        Node::AssertR(_) => from_to(e + 5, e + 3),
-        Node::Pair(_, _) => from_to(s.source, e),
-        Node::Disconnect(_, _) => from_to(e, e + 4),
-        Node::DisconnectHole(_) => from_to(e, e + 6),
-        Node::Witness => from_to(e, e + 1),
-        Node::Fail => from_to(e, e + 1),
-        Node::Word(n) => from_to(ONE, n + 1),
+    match kind {
+        Kind::Iden => from_to(e, e),
+        Kind::Unit => from_to(e, ONE),
+        Kind::InjL => from_to(s.source, e + 1),
+        Kind::InjR => from_to(s.source, e + 1),
+        Kind::Take => from_to(e + 1, s.target),
+        Kind::Drop => from_to(e + 1, s.target),
+        Kind::Comp => from_to(s.source, t.target),
+        Kind::Case => from_to(e + 5, e + 3),
+        Kind::AssertL => from_to(e + 5, e + 3),
+        Kind::AssertR => from_to(e + 5, e + 3),
+        Kind::Pair => from_to(s.source, e),
+        Kind::Disconnect => from_to(e, e + 4),
+        Kind::DisconnectHole => from_to(e, e + 6),
+        Kind::Witness => from_to(e, e + 1),
+        Kind::Fail => from_to(e, e + 1),
+        Kind::Word => from_to(ONE, node.a + 1),
     }
 }

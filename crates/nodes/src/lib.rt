@@ -1,7 +1,7 @@
 // What a node is, on numbers alone: the 8 bytes of a record, what each combinator adds to the tables, the rules in words. No
 // table is touched here.
 //
-// records: 8 bytes to a record. arrow: one rule for each combinator. text: the seven rule texts.
+// records: what 8 bytes ask for. arrow: one rule for each combinator. text: the seven rule texts.
 
 pub mod arrow;
 pub mod records;
@@ -27,10 +27,45 @@ pub enum Node {
     Word(u16),
 }
 
-// What 8 bytes ask for.
+// A combinator alone, in the same order.
+pub enum Kind {
+    Iden,
+    Unit,
+    InjL,
+    InjR,
+    Take,
+    Drop,
+    Comp,
+    Case,
+    AssertL,
+    AssertR,
+    Pair,
+    Disconnect,
+    DisconnectHole,
+    Witness,
+    Fail,
+    Word,
+}
+
+// A node as numbers, which need not be taken apart: its kind and its two fields, 0 where the kind does not use one.
+pub struct Coded {
+    pub kind: Kind,
+    pub a: u16,
+    pub b: u16,
+}
+
+// What 8 bytes ask for, as contracts say it.
 pub enum Record {
     Offer(Node),
     TakeBack(u16),
+    Close,
+    Malformed,
+}
+
+// What a record asks for, without its numbers.
+pub enum Asks {
+    Offer,
+    TakeBack,
     Close,
     Malformed,
 }

@@ -1,13 +1,19 @@
 // Eight bytes to a record: kind (1 byte), zero (1), a (2), b (2), zero (2), little-endian. Every byte pattern is some record,
-// and one with a field that its kind does not use is malformed unless that field is zero.
+// and one with a field that its kind does not use is malformed unless that field is zero. What a record asks for is told apart
+// from its numbers, so that a node's numbers are read from the bytes and never taken apart again.
 
-use super::Node;
-use super::Record;
+use super::Asks;
+use super::Coded;
+use super::Kind;
 ghost use mathlib.Core.Path.{_≡_};
 ghost use Prim.Native.Nat.{_+_, _*_, _≤_};
 ghost use lib.ListN.{length};
-ghost use Rattle.nodes.specs.Records.{spare, no-child, word as word-record, by-kind, record-at};
+ghost use Rattle.nodes.specs.Records.{spare, no-child, word as word-record, by-kind, two-bytes, record-at};
+ghost use Rattle.nodes.specs.Coded.{asks, kind-named, node-of, Regular};
+ghost use Rattle.nodes.specs.declared.Node.{Node};
+ghost use Rattle.nodes.specs.declared.Record.{Record};
 ghost use Rattle.nodes.specs.declared.Record.the-variants.{Offer};
+ghost use Rattle.nodes.specs.declared.Asks.the-variants.{Offer as offers};
 
 // The largest n of a word: 2^(2^31).
 pub const LARGEST_WORD: u16 = 31;
@@ -19,79 +25,129 @@ fn two_bytes(low: u8, high: u8) -> u16
 }
 
 // A field that must be zero.
-fn unless(field: u16, asked: Record) -> Record
-    ensures { λ r. ⌜ r ≡ spare field asked ⌝ }
+fn unless(field: u16, asked: Asks) -> Asks
+    ensures { λ r. ⌜ ((x : Record) → asked ≡ asks x → r ≡ asks (spare field x)) ⌝ }
 {
-    if field == 0 { asked } else { Record::Malformed }
+    if field == 0 { asked } else { Asks::Malformed }
 }
 
-// A node of a kind that uses neither field, the first, or both.
-fn plain(n: Node, a: u16, b: u16) -> Record
-    ensures { λ r. ⌜ r ≡ no-child n a b ⌝ }
+// A node of a kind that uses neither field, or the first.
+fn plain(a: u16, b: u16) -> Asks
+    ensures { λ r. ⌜ ((n : Node) → r ≡ asks (no-child n a b)) ⌝ }
 {
-    unless(a, unless(b, Record::Offer(n)))
+    unless(a, unless(b, Asks::Offer))
 }
 
-fn one(n: Node, b: u16) -> Record
-    ensures { λ r. ⌜ r ≡ spare b (Offer n) ⌝ }
+fn one(b: u16) -> Asks
+    ensures { λ r. ⌜ ((n : Node) → r ≡ asks (spare b (Offer n))) ⌝ }
 {
-    unless(b, Record::Offer(n))
+    unless(b, Asks::Offer)
 }
 
-fn word(n: u16, b: u16) -> Record
-    ensures { λ r. ⌜ r ≡ word-record n b ⌝ }
+fn word(n: u16, b: u16) -> Asks
+    ensures { λ r. ⌜ r ≡ asks (word-record n b) ⌝ }
 {
     if LARGEST_WORD < n {
-        return Record::Malformed;
+        return Asks::Malformed;
     }
-    unless(b, Record::Offer(Node::Word(n)))
+    unless(b, Asks::Offer)
 }
 
-fn node(kind: u8, a: u16, b: u16) -> Record
+fn node(kind: u8, a: u16, b: u16) -> Asks
     requires { ⌜ kind ≤ 16 ⌝ }
-    ensures { λ r. ⌜ r ≡ by-kind kind a b ⌝ }
+    ensures { λ r. ⌜ r ≡ asks (by-kind kind a b) ⌝ }
 {
     match kind {
-        1 => plain(Node::Iden, a, b),
-        2 => plain(Node::Unit, a, b),
-        3 => one(Node::InjL(a), b),
-        4 => one(Node::InjR(a), b),
-        5 => one(Node::Take(a), b),
-        6 => one(Node::Drop(a), b),
-        7 => Record::Offer(Node::Comp(a, b)),
-        8 => Record::Offer(Node::Case(a, b)),
-        9 => one(Node::AssertL(a), b),
-        10 => one(Node::AssertR(a), b),
-        11 => Record::Offer(Node::Pair(a, b)),
-        12 => Record::Offer(Node::Disconnect(a, b)),
-        13 => one(Node::DisconnectHole(a), b),
-        14 => plain(Node::Witness, a, b),
-        15 => plain(Node::Fail, a, b),
+        1 => plain(a, b),
+        2 => plain(a, b),
+        3 => one(b),
+        4 => one(b),
+        5 => one(b),
+        6 => one(b),
+        7 => Asks::Offer,
+        8 => Asks::Offer,
+        9 => one(b),
+        10 => one(b),
+        11 => Asks::Offer,
+        12 => Asks::Offer,
+        13 => one(b),
+        14 => plain(a, b),
+        15 => plain(a, b),
         16 => word(a, b),
-        _ => Record::Malformed,
+        _ => Asks::Malformed,
     }
 }
 
-fn by_kind(kind: u8, a: u16, b: u16) -> Record
-    ensures { λ r. ⌜ r ≡ by-kind kind a b ⌝ }
+fn by_kind(kind: u8, a: u16, b: u16) -> Asks
+    ensures { λ r. ⌜ r ≡ asks (by-kind kind a b) ⌝ }
 {
     match kind {
         1..=16 => node(kind, a, b),
-        64 => unless(b, Record::TakeBack(a)),
-        65 => unless(a, unless(b, Record::Close)),
-        _ => Record::Malformed,
+        64 => unless(b, Asks::TakeBack),
+        65 => unless(a, unless(b, Asks::Close)),
+        _ => Asks::Malformed,
     }
 }
 
-// The record in the eight bytes from `at` on.
-pub fn decode(bytes: &[u8], at: usize) -> Record
+// A record's first field: how many nodes a take-back leaves.
+pub fn first(bytes: &[u8], at: usize) -> u16
     requires { ⌜ at + 8 ≤ length (now bytes) ⌝ }
-    ensures { λ r. ⌜ r ≡ record-at (now (bytes .entry)) at ⌝ }
+    ensures { λ r. ⌜ r ≡ two-bytes (now (bytes .entry)) (at + 2) ⌝ }
 {
-    let kind = bytes[at];
-    let zero = bytes[at + 1] as u16;
-    let a = two_bytes(bytes[at + 2], bytes[at + 3]);
-    let b = two_bytes(bytes[at + 4], bytes[at + 5]);
-    let last = two_bytes(bytes[at + 6], bytes[at + 7]);
-    unless(zero, unless(last, by_kind(kind, a, b)))
+    two_bytes(bytes[at + 2], bytes[at + 3])
+}
+
+fn second(bytes: &[u8], at: usize) -> u16
+    requires { ⌜ at + 8 ≤ length (now bytes) ⌝ }
+    ensures { λ r. ⌜ r ≡ two-bytes (now (bytes .entry)) (at + 4) ⌝ }
+{
+    two_bytes(bytes[at + 4], bytes[at + 5])
+}
+
+// What the eight bytes from `at` on ask for.
+pub fn asked(bytes: &[u8], at: usize) -> Asks
+    requires { ⌜ at + 8 ≤ length (now bytes) ⌝ }
+    ensures { λ r. ⌜ r ≡ asks (record-at (now (bytes .entry)) at) ⌝ }
+{
+    if bytes[at + 1] != 0 {
+        return Asks::Malformed;
+    }
+    if two_bytes(bytes[at + 6], bytes[at + 7]) != 0 {
+        return Asks::Malformed;
+    }
+    by_kind(bytes[at], first(bytes, at), second(bytes, at))
+}
+
+fn kind_at(kind: u8) -> Kind
+    ensures { λ r. ⌜ r ≡ kind-named kind ⌝ }
+{
+    match kind {
+        1 => Kind::Iden,
+        2 => Kind::Unit,
+        3 => Kind::InjL,
+        4 => Kind::InjR,
+        5 => Kind::Take,
+        6 => Kind::Drop,
+        7 => Kind::Comp,
+        8 => Kind::Case,
+        9 => Kind::AssertL,
+        10 => Kind::AssertR,
+        11 => Kind::Pair,
+        12 => Kind::Disconnect,
+        13 => Kind::DisconnectHole,
+        14 => Kind::Witness,
+        15 => Kind::Fail,
+        _ => Kind::Word,
+    }
+}
+
+// The node of a record that offers one.
+pub fn node_at(bytes: &[u8], at: usize) -> Coded
+    requires { ⌜ (at + 8 ≤ length (now bytes)) × (asks (record-at (now bytes) at) ≡ offers) ⌝ }
+    ensures { λ r. ⌜ (record-at (now (bytes .entry)) at ≡ Offer (node-of r)) × Regular r ⌝ }
+{
+    let kind = kind_at(bytes[at]);
+    let a = first(bytes, at);
+    let b = second(bytes, at);
+    Coded { kind, a, b }
 }

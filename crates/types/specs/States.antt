@@ -8,9 +8,9 @@ use Rattle.classes.specs.Merging.{Merges}
 use Rattle.classes.specs.Merging.Verdict.{fits, clash}
 use Rattle.classes.specs.declared.Bound.{Bound}
 use Rattle.nodes.specs.Layout.{Numbered, Program, Proper, standing, opened, row-of, grown}
+use Rattle.nodes.specs.Coded.{kind-number, first-field, second-field}
 use Rattle.types.specs.Answers.{Below}
 use Rattle.nodes.specs.declared.Node.{Node}
-use Rattle.nodes.specs.declared.Node.the-variants.{Iden, Unit, InjL, InjR, Take, Drop, Comp, Case, AssertL, AssertR, Pair, Disconnect, DisconnectHole, Witness, Fail, Word}
 use Rattle.nodes.specs.declared.arrow.Arrow.{Arrow}
 
 -- the tables, the nodes' rows, and how many nodes are kept
@@ -36,61 +36,6 @@ pub data Meets : Table → List Numbered → Table → Type 0 where
 pub data Stops : Table → List Numbered → ℕ → Table → Type 0 where
   here : {t u : Table} {r : Numbered} {rs : List Numbered} → Merges t (r .rule ∷ []) clash u → Stops t (r ∷ rs) 0 u
   later : {t u w : Table} {r : Numbered} {rs : List Numbered} {k : ℕ} → Merges t (r .rule ∷ []) fits u → Stops u rs k w → Stops t (r ∷ rs) (suc k) w
-
--- a node as numbers: its kind and its two fields
-abbrev pub kind-number : Node → ℕ
-kind-number Iden = 1
-kind-number Unit = 2
-kind-number (InjL i) = 3
-kind-number (InjR i) = 4
-kind-number (Take i) = 5
-kind-number (Drop i) = 6
-kind-number (Comp i j) = 7
-kind-number (Case i j) = 8
-kind-number (AssertL i) = 9
-kind-number (AssertR i) = 10
-kind-number (Pair i j) = 11
-kind-number (Disconnect i j) = 12
-kind-number (DisconnectHole i) = 13
-kind-number Witness = 14
-kind-number Fail = 15
-kind-number (Word n) = 16
-
-abbrev pub first-field : Node → ℕ
-first-field Iden = 0
-first-field Unit = 0
-first-field (InjL i) = i
-first-field (InjR i) = i
-first-field (Take i) = i
-first-field (Drop i) = i
-first-field (Comp i j) = i
-first-field (Case i j) = i
-first-field (AssertL i) = i
-first-field (AssertR i) = i
-first-field (Pair i j) = i
-first-field (Disconnect i j) = i
-first-field (DisconnectHole i) = i
-first-field Witness = 0
-first-field Fail = 0
-first-field (Word n) = n
-
-abbrev pub second-field : Node → ℕ
-second-field Iden = 0
-second-field Unit = 0
-second-field (InjL i) = 0
-second-field (InjR i) = 0
-second-field (Take i) = 0
-second-field (Drop i) = 0
-second-field (Comp i j) = j
-second-field (Case i j) = j
-second-field (AssertL i) = 0
-second-field (AssertR i) = 0
-second-field (Pair i j) = j
-second-field (Disconnect i j) = j
-second-field (DisconnectHole i) = 0
-second-field Witness = 0
-second-field Fail = 0
-second-field (Word n) = 0
 
 -- a node's row in the table of nodes: kind, a, b, source, target, and the entries and links before it
 abbrev pub row-numbers : Node → Arrow → ℕ → ℕ → List ℕ

@@ -16,7 +16,8 @@ use closing::listing;
 use closing::listing::NODE;
 use closing::listing::SOURCE;
 use closing::listing::TARGET;
-use nodes::Node;
+use nodes::Coded;
+use nodes::Kind;
 use nodes::arrow;
 use nodes::arrow::Adds;
 use nodes::arrow::Arrow;
@@ -30,9 +31,10 @@ ghost use Rattle.classes.specs.Promises.{made-links};
 ghost use Rattle.classes.specs.declared.Bound.the-variants.{Free};
 ghost use Rattle.nodes.specs.Layout.{children, standing, Proper};
 ghost use Rattle.nodes.specs.Layout.{arrow as from-to};
+ghost use Rattle.nodes.specs.Coded.{node-of, kind-number, Regular};
 ghost use Rattle.nodes.specs.Meant.{Countable, meant};
 ghost use Rattle.types.specs.Answers.{Below};
-ghost use Rattle.types.specs.States.{state, entered, kind-number, first-field, second-field, row-numbers, Opened};
+ghost use Rattle.types.specs.States.{state, entered, row-numbers, Opened};
 ghost use Rattle.types.specs.Applying.{row-written, rows-cleared, Enterable, Meetable, Meeting, met-links, Applicable, Applying, applied-entries, applied-links};
 ghost use Rattle.types.specs.Calls.{Called};
 ghost use Rattle.types.specs.Calls.{Closing as Closes};
@@ -71,121 +73,76 @@ pub enum Applied {
     Clash(u16),
 }
 
-fn kind_number(n: Node) -> u16
-    ensures { λ r. ⌜ r ≡ kind-number n ⌝ }
+// The number of a node's kind in document 01.
+fn kind_number(n: Coded) -> u16
+    ensures { λ r. ⌜ r ≡ kind-number (node-of n) ⌝ }
 {
-    match n {
-        Node::Iden => 1,
-        Node::Unit => 2,
-        Node::InjL(_) => 3,
-        Node::InjR(_) => 4,
-        Node::Take(_) => 5,
-        Node::Drop(_) => 6,
-        Node::Comp(_, _) => 7,
-        Node::Case(_, _) => 8,
-        Node::AssertL(_) => 9,
-        Node::AssertR(_) => 10,
-        Node::Pair(_, _) => 11,
-        Node::Disconnect(_, _) => 12,
-        Node::DisconnectHole(_) => 13,
-        Node::Witness => 14,
-        Node::Fail => 15,
-        Node::Word(_) => 16,
-    }
-}
-
-fn first_field(n: Node) -> u16
-    ensures { λ r. ⌜ r ≡ first-field n ⌝ }
-{
-    match n {
-        Node::Iden => 0,
-        Node::Unit => 0,
-        Node::InjL(i) => i,
-        Node::InjR(i) => i,
-        Node::Take(i) => i,
-        Node::Drop(i) => i,
-        Node::Comp(i, _) => i,
-        Node::Case(i, _) => i,
-        Node::AssertL(i) => i,
-        Node::AssertR(i) => i,
-        Node::Pair(i, _) => i,
-        Node::Disconnect(i, _) => i,
-        Node::DisconnectHole(i) => i,
-        Node::Witness => 0,
-        Node::Fail => 0,
-        Node::Word(n) => n,
-    }
-}
-
-fn second_field(n: Node) -> u16
-    ensures { λ r. ⌜ r ≡ second-field n ⌝ }
-{
-    match n {
-        Node::Iden => 0,
-        Node::Unit => 0,
-        Node::InjL(_) => 0,
-        Node::InjR(_) => 0,
-        Node::Take(_) => 0,
-        Node::Drop(_) => 0,
-        Node::Comp(_, j) => j,
-        Node::Case(_, j) => j,
-        Node::AssertL(_) => 0,
-        Node::AssertR(_) => 0,
-        Node::Pair(_, j) => j,
-        Node::Disconnect(_, j) => j,
-        Node::DisconnectHole(_) => 0,
-        Node::Witness => 0,
-        Node::Fail => 0,
-        Node::Word(_) => 0,
+    let kind = n.kind;
+    match kind {
+        Kind::Iden => 1,
+        Kind::Unit => 2,
+        Kind::InjL => 3,
+        Kind::InjR => 4,
+        Kind::Take => 5,
+        Kind::Drop => 6,
+        Kind::Comp => 7,
+        Kind::Case => 8,
+        Kind::AssertL => 9,
+        Kind::AssertR => 10,
+        Kind::Pair => 11,
+        Kind::Disconnect => 12,
+        Kind::DisconnectHole => 13,
+        Kind::Witness => 14,
+        Kind::Fail => 15,
+        Kind::Word => 16,
     }
 }
 
 // How many children a node has. They stand in its fields; a word's field is no child.
-fn arity(n: Node) -> u16
-    ensures { λ r. ⌜ r ≡ length (children n) ⌝ }
+fn arity(n: Coded) -> u16
+    ensures { λ r. ⌜ r ≡ length (children (node-of n)) ⌝ }
 {
-    match n {
-        Node::Iden => 0,
-        Node::Unit => 0,
-        Node::InjL(_) => 1,
-        Node::InjR(_) => 1,
-        Node::Take(_) => 1,
-        Node::Drop(_) => 1,
-        Node::Comp(_, _) => 2,
-        Node::Case(_, _) => 2,
-        Node::AssertL(_) => 1,
-        Node::AssertR(_) => 1,
-        Node::Pair(_, _) => 2,
-        Node::Disconnect(_, _) => 2,
-        Node::DisconnectHole(_) => 1,
-        Node::Witness => 0,
-        Node::Fail => 0,
-        Node::Word(_) => 0,
+    let kind = n.kind;
+    match kind {
+        Kind::Iden => 0,
+        Kind::Unit => 0,
+        Kind::InjL => 1,
+        Kind::InjR => 1,
+        Kind::Take => 1,
+        Kind::Drop => 1,
+        Kind::Comp => 2,
+        Kind::Case => 2,
+        Kind::AssertL => 1,
+        Kind::AssertR => 1,
+        Kind::Pair => 2,
+        Kind::Disconnect => 2,
+        Kind::DisconnectHole => 1,
+        Kind::Witness => 0,
+        Kind::Fail => 0,
+        Kind::Word => 0,
     }
 }
 
 // The first child, 0 where there is none. The second field is the second child, or 0.
-fn first_child(n: Node) -> u16
-    ensures { λ r. ⌜ r ≡ getD (children n) 0 0 ⌝ }
+fn first_child(n: Coded) -> u16
+    requires { ⌜ Regular n ⌝ }
+    ensures { λ r. ⌜ r ≡ getD (children (node-of n)) 0 0 ⌝ }
 {
-    if arity(n) == 0 { 0 } else { first_field(n) }
+    if arity(n) == 0 { 0 } else { n.a }
 }
 
-// Every child is below the next number.
-fn children_below(n: Node, next: u16) -> bool
-    ensures { λ r. ⌜ (r ≡ true → Below next n) × (r ≡ false → Below next n → ⊥) ⌝ }
+// Every child is below the next number. A node with one child has 0 for its second, which is below if the first is.
+fn children_below(n: Coded, next: u16) -> bool
+    requires { ⌜ Regular n ⌝ }
+    ensures { λ r. ⌜ (r ≡ true → Below next (node-of n)) × (r ≡ false → Below next (node-of n) → ⊥) ⌝ }
 {
-    let children = arity(n);
-    if children == 0 {
+    if arity(n) == 0 {
         return true;
     }
-    if next <= first_field(n) {
+    if next <= n.a {
         return false;
     }
-    if children == 1 {
-        return true;
-    }
-    second_field(n) < next
+    n.b < next
 }
 
 // The arrow of the node with this number, as its row has it.
@@ -200,14 +157,14 @@ fn arrow_at(nodes: &[u16], i: u16) -> Arrow
     }
 }
 
-fn write_row(nodes: &mut [u16], i: u16, n: Node, gives: Arrow, before: Mark)
-    requires { ⌜ 7 * i + 7 ≤ length (now nodes) ⌝ }
-    ensures { λ _. ⌜ now (nodes .exit) ≡ row-written (now (nodes .entry)) i (row-numbers n gives (before .entries) (before .links)) ⌝ }
+fn write_row(nodes: &mut [u16], i: u16, n: Coded, gives: Arrow, before: Mark)
+    requires { ⌜ (7 * i + 7 ≤ length (now nodes)) × Regular n ⌝ }
+    ensures { λ _. ⌜ now (nodes .exit) ≡ row-written (now (nodes .entry)) i (row-numbers (node-of n) gives (before .entries) (before .links)) ⌝ }
 {
     let row = NODE * (i as usize);
     nodes[row] = kind_number(n);
-    nodes[row + 1] = first_field(n);
-    nodes[row + 2] = second_field(n);
+    nodes[row + 1] = n.a;
+    nodes[row + 2] = n.b;
     nodes[row + SOURCE] = gives.source;
     nodes[row + TARGET] = gives.target;
     nodes[row + ENTRIES] = before.entries;
@@ -407,12 +364,12 @@ pub fn offer(
     pending: &mut [u16],
     nodes: &mut [u16],
     live: Live,
-    n: Node,
+    n: Coded,
 ) -> Step
     requires { ⌜ ((most : ℕ) × Opened most (state (table (now parent) (now rank) (now shape) (now kind) (now left) (now right) (now trail) (live .entries) (live .links)) (now nodes) (live .kept))) ⌝ }
-    requires { ⌜ Proper n × (2 * length (now parent) ≤ length (now pending)) ⌝ }
+    requires { ⌜ Regular n × Proper (node-of n) × (2 * length (now parent) ≤ length (now pending)) ⌝ }
     ensures { λ r. ⌜ ((most : ℕ) (o : Opened most (state (table (now (parent .entry)) (now (rank .entry)) (now (shape .entry)) (now (kind .entry)) (now (left .entry)) (now (right .entry)) (now (trail .entry)) (live .entries) (live .links)) (now (nodes .entry)) (live .kept))) →
-        Called most (state (table (now (parent .entry)) (now (rank .entry)) (now (shape .entry)) (now (kind .entry)) (now (left .entry)) (now (right .entry)) (now (trail .entry)) (live .entries) (live .links)) (now (nodes .entry)) (live .kept)) o (Offer n) (r .answer)
+        Called most (state (table (now (parent .entry)) (now (rank .entry)) (now (shape .entry)) (now (kind .entry)) (now (left .entry)) (now (right .entry)) (now (trail .entry)) (live .entries) (live .links)) (now (nodes .entry)) (live .kept)) o (Offer (node-of n)) (r .answer)
         (state (table (now (parent .exit)) (now (rank .exit)) (now (shape .exit)) (now (kind .exit)) (now (left .exit)) (now (right .exit)) (now (trail .exit)) (r .live .entries) (r .live .links)) (now (nodes .exit)) (r .live .kept))) ⌝ }
 {
     let kept = live.kept;
@@ -433,7 +390,7 @@ pub fn offer(
         links: live.links,
     };
     let s = arrow_at(nodes, first_child(n));
-    let t = arrow_at(nodes, second_field(n));
+    let t = arrow_at(nodes, n.b);
     let row = Adds {
         node: n,
         s,

@@ -1,8 +1,10 @@
 -- `calls::offer` meets its contract, which is the core's on the state's own arrays. A word's n is looked at first.
+use mathlib.Core.Path.{sym, subst}
 use native.Mathlib.Omega.{arith}
 use Rattle.nodes.specs.Layout.{Proper}
 use Rattle.types.proofs.Begun.{pending-wide}
 use Rattle.types.proofs.Offering.{offer-over-31}
+use Rattle.calls.proofs.Handing.{same-offer}
 use borrow.Author.Needs.{needs}
 use Rattle.calls.proofs.offer.Statement.{statement}
 use Rattle.calls.proofs.offer.Tie as tie
@@ -44,13 +46,19 @@ slice-aggregate-offer-9 c = search needs
 proper : (c : tie.Else1) → Proper (c .before .before .args .n)
 proper c = omega (arith, c .if1 .left, c .before .word-of .ensures)
 
+coded-requires : tie.Need-coded-requires
+coded-requires c κs = search needs
+
 offer-requires : tie.Need-offer-requires
 offer-requires c κs =
-    let past = c .before .before .before .before .before .before .before .before .before .before .before .before .before .before .before .before .before .before in
-    ((1024, past .before .before .pre), (proper past, pending-wide (past .before .before .args .s .parent) 8225 16450 (slice-aggregate-offer (c .before .before .before .before .before .before .before .before)) (omega arith)))
+    let past = c .before .before .before .before .before .before .before .before .before .before .before .before .before .before .before .before .before .before .before in
+    let start = past .before .before in (
+      (1024, start .pre),
+      (c .coded .ensures .1, subst Proper (sym (c .coded .ensures .0)) (proper past), pending-wide (start .args .s .parent) 8225 16450 (slice-aggregate-offer (c .before .before .before .before .before .before .before .before .before)) (omega arith)),
+    )
 
 returns-2 : tie.Need-returns-2
-returns-2 c = λ o. c .before .before .before .before .before .before .before .before .before .before .offer .ensures 1024 o
+returns-2 c = let call = c .before .before .before .before .before .before .before .before .before .before in λ o. same-offer (call .before .coded .ensures .0) (call .offer .ensures 1024 o)
 
 pub offer-spec : {M : Type 1} → statement M
 offer-spec =
@@ -67,5 +75,6 @@ offer-spec =
     slice-aggregate-offer-7
     slice-aggregate-offer-8
     slice-aggregate-offer-9
+    coded-requires
     offer-requires
     returns-2)

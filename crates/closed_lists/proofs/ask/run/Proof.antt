@@ -18,11 +18,8 @@ loop-holds c = c .pre
 order-at-requires : tie.Need-order-at-requires Inv-loop μ-loop
 order-at-requires c κs = search needs
 
-read-requires : tie.Need-read-requires Inv-loop μ-loop
-read-requires c κs = search needs
-
 put-requires : tie.Need-put-requires Inv-loop μ-loop
-put-requires c κs = c .before .before .before .loop .inv
+put-requires c κs = c .before .before .loop .inv
 
 add-at : tie.Need-add-at Inv-loop μ-loop
 add-at c = search needs
@@ -44,7 +41,6 @@ run-spec =
     μ-loop
     loop-holds
     order-at-requires
-    read-requires
     put-requires
     add-at
     loop-less

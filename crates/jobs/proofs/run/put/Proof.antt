@@ -1,33 +1,47 @@
 -- `jobs::run::put` meets its contract: what the core promises, by what the record asks.
+use mathlib.Core.Path.{sym, ap, _∙_}
+use Rattle.nodes.specs.declared.Record.the-variants.{TakeBack}
+use Rattle.nodes.proofs.Asked.{asked, asked-proper, asked-take-back, asked-close, asked-malformed}
 use Rattle.jobs.proofs.Putting.{offer-is-no-closing, take-back-is-no-closing, put-other, put-closing, put-malformed, closing-room}
 use borrow.Author.Needs.{needs}
 use Rattle.jobs.proofs.run.put.Statement.{statement}
 use Rattle.jobs.proofs.run.put.Tie as tie
 
-enum-known-asked : tie.Need-enum-known-asked
-enum-known-asked c = search needs
-
-offer-requires : tie.Need-offer-requires
-offer-requires c κs =
-    let start = c .before .before .before .before .before .before .before .before .before .before .before .before .before .before .before .before .before .before .before .before .before .before in
-    ((1024, start .pre .0), (start .pre .1 .0 _ (c .before .before .before .before .before .before .before .before .before .before .asked .given .1), start .pre .1 .1 .pairs))
-
-enum-known-asked-2 : tie.Need-enum-known-asked-2
-enum-known-asked-2 c = search needs
-
-take-back-requires : tie.Need-take-back-requires
-take-back-requires c κs = search needs
+asked-requires : tie.Need-asked-requires
+asked-requires c κs = search needs
 
 enum-told : tie.Need-enum-told
 enum-told c = search needs
 
-close-requires : tie.Need-close-requires
-close-requires c κs =
-    let start = c .before .before .before .before .before .before .before .before .before .before .before .before .before .before .before .before .before .before .before .before in
-    ((1024, _, _, start .pre .0), closing-room (start .pre .0) (start .pre .1 .1))
+node-at-requires : tie.Need-node-at-requires
+node-at-requires c κs =
+    let start = c .before .before .before .before .before .before .before .before .before .before .before .before .before .before .before .before .before .before .before .before .before .before .before in
+    (start .pre .1 .0, sym (c .before .before .before .before .before .before .before .before .before .before .before .asked .ensures) ∙ c .before .before .before .before .before .before .before .before .before .enum-told .given .1)
+
+offer-requires : tie.Need-offer-requires
+offer-requires c κs =
+    let start = c .before .before .before .before .before .before .before .before .before .before .before .before .before .before .before .before .before .before .before .before .before .before .before .before in
+    ((1024, start .pre .0), (c .node-at .ensures .1, asked-proper (asked (start .args .bytes .now) (start .args .from)) _ (c .node-at .ensures .0), start .pre .1 .1 .pairs))
 
 enum-told-2 : tie.Need-enum-told-2
 enum-told-2 c = search needs
+
+first-requires : tie.Need-first-requires
+first-requires c κs = search needs
+
+take-back-requires : tie.Need-take-back-requires
+take-back-requires c κs = search needs
+
+enum-told-3 : tie.Need-enum-told-3
+enum-told-3 c = search needs
+
+close-requires : tie.Need-close-requires
+close-requires c κs =
+    let start = c .before .before .before .before .before .before .before .before .before .before .before .before .before .before .before .before .before .before .before .before .before .before in
+    ((1024, _, _, start .pre .0), closing-room (start .pre .0) (start .pre .1 .1))
+
+enum-told-4 : tie.Need-enum-told-4
+enum-told-4 c = search needs
 
 same-length : tie.Need-same-length
 same-length c = search needs
@@ -59,7 +73,7 @@ same-length-9 c = search needs
 returns : tie.Need-returns
 returns c =
     let call = c .before .before .before .before .before .before .before .before .before .before .before .before .before .before .before .before .before .before in
-    λ o. put-other o (call .before .before .before .before .before .before .before .before .before .before .before .asked .given .1) (offer-is-no-closing _) (call .offer .ensures 1024 o)
+    λ o. put-other o (call .before .node-at .ensures .0) (offer-is-no-closing _) (call .offer .ensures 1024 o)
 
 same-length-10 : tie.Need-same-length-10
 same-length-10 c = search needs
@@ -88,7 +102,9 @@ same-length-17 c = search needs
 returns-2 : tie.Need-returns-2
 returns-2 c =
     let call = c .before .before .before .before .before .before .before .before .before .before .before .before .before .before .before .before in
-    λ o. put-other o (call .before .before .before .before .before .before .before .before .before .before .asked2 .given .1) (take-back-is-no-closing _) (call .take-back .ensures 1024 o)
+    let start = c .before .before .before .before .before .before .before .before .before .before .before .before .before .before .before .before .before .before .before .before .before .before .before .before .before .before .before .before .before .before .before .before .before .before .before .before .before .before .before .before in
+    let is = asked-take-back (asked (start .args .bytes .now) (start .args .from)) (sym (c .before .before .before .before .before .before .before .before .before .before .before .before .before .before .before .before .before .before .before .before .before .before .before .before .before .before .before .before .asked .ensures) ∙ c .before .before .before .before .before .before .before .before .before .before .before .before .before .before .before .before .before .before .before .before .before .before .before .before .before .before .enum-told2 .given .1) in
+    λ o. put-other o (is ∙ ap TakeBack (sym (call .before .first .ensures))) (take-back-is-no-closing _) (call .take-back .ensures 1024 o)
 
 same-length-18 : tie.Need-same-length-18
 same-length-18 c = search needs
@@ -117,22 +133,28 @@ same-length-25 c = search needs
 returns-3 : tie.Need-returns-3
 returns-3 c =
     let call = c .before .before .before .before in
-    λ o. put-closing o (call .before .before .before .before .before .before .before .before .before .enum-told .given .1) (call .close .ensures 1024 _ _ o)
+    let start = c .before .before .before .before .before .before .before .before .before .before .before .before .before .before .before .before .before .before .before .before .before .before .before .before .before .before .before in
+    λ o. put-closing o (asked-close (asked (start .args .bytes .now) (start .args .from)) (sym (c .before .before .before .before .before .before .before .before .before .before .before .before .before .before .before .asked .ensures) ∙ c .before .before .before .before .before .before .before .before .before .before .before .before .before .enum-told3 .given .1)) (call .close .ensures 1024 _ _ o)
 
 returns-4 : tie.Need-returns-4
-returns-4 c = λ o. put-malformed o (c .enum-told2 .given .1)
+returns-4 c =
+    let start = c .before .before .before .before .before .before .before .before .before .before .before .before .before .before in
+    λ o. put-malformed o (asked-malformed (asked (start .args .bytes .now) (start .args .from)) (sym (c .before .before .asked .ensures) ∙ c .enum-told4 .given .1))
 
 pub put-spec : {M : Type 1} → statement M
 put-spec =
     tie.close
     (tie.spec
-    enum-known-asked
-    offer-requires
-    enum-known-asked-2
-    take-back-requires
+    asked-requires
     enum-told
-    close-requires
+    node-at-requires
+    offer-requires
     enum-told-2
+    first-requires
+    take-back-requires
+    enum-told-3
+    close-requires
+    enum-told-4
     same-length
     same-length-2
     same-length-3

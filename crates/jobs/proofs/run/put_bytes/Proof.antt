@@ -1,28 +1,22 @@
 -- `jobs::run::put_bytes` meets its contract: what its calls promise, one after the other.
 use native.Mathlib.Omega.{arith}
-use Rattle.nodes.proofs.Asked.{asked-as}
 use Rattle.jobs.proofs.Leaving.{recorded}
 use borrow.Author.Needs.{needs}
 use Rattle.jobs.proofs.run.put_bytes.Statement.{statement}
 use Rattle.jobs.proofs.run.put_bytes.Tie as tie
 
-decode-requires : tie.Need-decode-requires
-decode-requires c κs = search needs
-
 put-requires : tie.Need-put-requires
-put-requires c κs =
-    let start = c .before .before .before .before .before .before .before .before .before .before .before .before .before .before .before .before .before .before .before .before .before .before .before in
-    (start .pre .0, (asked-as (start .args .bytes .now) (start .args .from) (c .decode .ensures), start .pre .1 .0))
+put-requires c κs = let start = c .before .before .before .before .before .before .before .before .before .before .before .before .before .before .before .before .before .before .before .before .before .before in (start .pre .0, (start .pre .1 .1 .0, start .pre .1 .0))
 
 write-requires : tie.Need-write-requires
-write-requires c κs = c .before .before .before .before .before .before .before .before .before .before .before .before .before .before .before .before .before .before .before .before .before .before .before .before .before .before .before .before .before .before .before .before .before .before .before .before .before .before .before .before .before .before .before .before .before .pre .1 .1 .1
+write-requires c κs = c .before .before .before .before .before .before .before .before .before .before .before .before .before .before .before .before .before .before .before .before .before .before .before .before .before .before .before .before .before .before .before .before .before .before .before .before .before .before .before .before .before .before .before .before .pre .1 .1 .1
 
 shared-slice-read-settle : tie.Need-shared-slice-read-settle
-shared-slice-read-settle c = omega (arith, c .before .before .before .before .before .before .before .before .before .before .before .before .before .before .before .before .before .before .before .before .before .before .before .before .before .before .before .before .before .before .before .before .before .before .before .before .before .before .before .before .before .before .before .before .before .before .before .before .before .before .pre .1 .1 .0)
+shared-slice-read-settle c = omega (arith, c .before .before .before .before .before .before .before .before .before .before .before .before .before .before .before .before .before .before .before .before .before .before .before .before .before .before .before .before .before .before .before .before .before .before .before .before .before .before .before .before .before .before .before .before .before .before .before .before .before .pre .1 .1 .0)
 
 settle-requires : tie.Need-settle-requires
 settle-requires c κs =
-    let start = c .before .before .before .before .before .before .before .before .before .before .before .before .before .before .before .before .before .before .before .before .before .before .before .before .before .before .before .before .before .before .before .before .before .before .before .before .before .before .before .before .before .before .before .before .before .before .before .before .before .before in
+    let start = c .before .before .before .before .before .before .before .before .before .before .before .before .before .before .before .before .before .before .before .before .before .before .before .before .before .before .before .before .before .before .before .before .before .before .before .before .before .before .before .before .before .before .before .before .before .before .before .before .before in
     omega (arith, start .pre .1 .0 .numbers, c .before .before .before .before .before .before .before .before .before .before .before .before .before .before .before .before .before .before .before .before .before .before .before .before .before .before .put .kept .1 .1 .1 .1 .1 .1 .1 .1 .1 .0)
 
 same-length : tie.Need-same-length
@@ -61,14 +55,13 @@ same-length-11 c = search needs
 returns : tie.Need-returns
 returns c =
     let put = c .before .before .before .before .before .before .before .before .before .before .before .before .before .before .before .before .before .before .before .before .before .before .before .before .before .before .before .before .before .before in
-    let start = put .before .before .before .before .before .before .before .before .before .before .before .before .before .before .before .before .before .before .before .before .before .before .before .before in
-    λ o. recorded o (start .args .bytes .now) (start .args .from) (put .before .decode .ensures) (put .put .ensures o) (c .before .before .before .settle .ensures) (c .before .before .before .before .before .before .before .before .write .ensures)
+    let start = put .before .before .before .before .before .before .before .before .before .before .before .before .before .before .before .before .before .before .before .before .before .before .before in
+    λ o. recorded o (start .args .bytes .now) (start .args .from) (put .put .ensures o) (c .before .before .before .settle .ensures) (c .before .before .before .before .before .before .before .before .write .ensures)
 
 pub put-bytes-spec : {M : Type 1} → statement M
 put-bytes-spec =
     tie.close
     (tie.spec
-    decode-requires
     put-requires
     write-requires
     shared-slice-read-settle

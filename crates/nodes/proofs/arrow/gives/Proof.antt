@@ -136,11 +136,11 @@ add-from-to-14 c = search needs
 from-to-requires-15 : tie.Need-from-to-requires-15
 from-to-requires-15 c κs = search needs
 
-enum-known-node : tie.Need-enum-known-node
-enum-known-node c = search needs
+enum-told-16 : tie.Need-enum-told-16
+enum-told-16 c = search needs
 
 add-from-to-15 : tie.Need-add-from-to-15
-add-from-to-15 c = omega (arith, rw (c .before .node .given .1) at (c .before .before .before .before .before .pre .1))
+add-from-to-15 c = omega (arith, rw (c .before .enum-told16 .given .1) at (c .before .before .before .before .before .before .pre .1))
 
 from-to-requires-16 : tie.Need-from-to-requires-16
 from-to-requires-16 c κs = search needs
@@ -191,7 +191,7 @@ returns-15 : tie.Need-returns-15
 returns-15 c = rw (c .before .enum-told15 .given .1) (c .from-to15 .ensures)
 
 returns-16 : tie.Need-returns-16
-returns-16 c = rw (c .before .before .node .given .1) (c .from-to16 .ensures)
+returns-16 c = rw (c .before .before .enum-told16 .given .1) (c .from-to16 .ensures)
 
 pub gives-spec : {M : Type 1} → statement M
 gives-spec =
@@ -241,7 +241,7 @@ gives-spec =
     enum-told-15
     add-from-to-14
     from-to-requires-15
-    enum-known-node
+    enum-told-16
     add-from-to-15
     from-to-requires-16
     returns

@@ -52,19 +52,19 @@ enum-told-8 : tie.Need-enum-told-8
 enum-told-8 c = search needs
 
 case-rule-requires : tie.Need-case-rule-requires
-case-rule-requires c κs = (c .before .before .before .before .pre .0 .0, rw (c .enum-told8 .given .1) at (c .before .before .before .before .pre .1))
+case-rule-requires c κs = (c .before .before .before .before .before .pre .0 .0, rw (c .enum-told8 .given .1) at (c .before .before .before .before .before .pre .1))
 
 enum-told-9 : tie.Need-enum-told-9
 enum-told-9 c = search needs
 
 half-rule-requires : tie.Need-half-rule-requires
-half-rule-requires c κs = (c .before .before .before .before .pre .0 .0, rw (c .enum-told9 .given .1) at (c .before .before .before .before .pre .1))
+half-rule-requires c κs = (c .before .before .before .before .before .pre .0 .0, rw (c .enum-told9 .given .1) at (c .before .before .before .before .before .pre .1))
 
 enum-told-10 : tie.Need-enum-told-10
 enum-told-10 c = search needs
 
 half-rule-requires-2 : tie.Need-half-rule-requires-2
-half-rule-requires-2 c κs = (c .before .before .before .before .pre .0 .0, rw (c .enum-told10 .given .1) at (c .before .before .before .before .pre .1))
+half-rule-requires-2 c κs = (c .before .before .before .before .before .pre .0 .0, rw (c .enum-told10 .given .1) at (c .before .before .before .before .before .pre .1))
 
 enum-told-11 : tie.Need-enum-told-11
 enum-told-11 c = search needs
@@ -82,7 +82,7 @@ add-disconnect-rule-2 : tie.Need-add-disconnect-rule-2
 add-disconnect-rule-2 c = search needs
 
 disconnect-rule-requires : tie.Need-disconnect-rule-requires
-disconnect-rule-requires c κs = rw (c .enum-told12 .given .1) at (c .before .before .before .before .pre .1)
+disconnect-rule-requires c κs = rw (c .enum-told12 .given .1) at (c .before .before .before .before .before .pre .1)
 
 enum-told-13 : tie.Need-enum-told-13
 enum-told-13 c = search needs
@@ -94,7 +94,7 @@ add-disconnect-rule-4 : tie.Need-add-disconnect-rule-4
 add-disconnect-rule-4 c = search needs
 
 disconnect-rule-requires-2 : tie.Need-disconnect-rule-requires-2
-disconnect-rule-requires-2 c κs = rw (c .enum-told13 .given .1) at (c .before .before .before .before .pre .1)
+disconnect-rule-requires-2 c κs = rw (c .enum-told13 .given .1) at (c .before .before .before .before .before .pre .1)
 
 enum-told-14 : tie.Need-enum-told-14
 enum-told-14 c = search needs
@@ -133,7 +133,7 @@ returns-6 : tie.Need-returns-6
 returns-6 c = rw (c .before .enum-told6 .given .1) (c .says6 .ensures)
 
 returns-7 : tie.Need-returns-7
-returns-7 c = rw (c .before .enum-told7 .given .1) (c .says7 .ensures ∙ only _ (says 0 0 0) _ (rw (c .before .enum-told7 .given .1) at (c .before .before .before .before .before .pre .1)))
+returns-7 c = rw (c .before .enum-told7 .given .1) (c .says7 .ensures ∙ only _ (says 0 0 0) _ (rw (c .before .enum-told7 .given .1) at (c .before .before .before .before .before .before .pre .1)))
 
 returns-8 : tie.Need-returns-8
 returns-8 c = rw (c .before .enum-told8 .given .1) (c .case-rule .ensures)
@@ -145,7 +145,7 @@ returns-10 : tie.Need-returns-10
 returns-10 c = rw (c .before .enum-told10 .given .1) (c .half-rule2 .ensures)
 
 returns-11 : tie.Need-returns-11
-returns-11 c = rw (c .before .enum-told11 .given .1) (c .says8 .ensures ∙ only _ (says 0 0 0) _ (rw (c .before .enum-told11 .given .1) at (c .before .before .before .before .before .pre .1)))
+returns-11 c = rw (c .before .enum-told11 .given .1) (c .says8 .ensures ∙ only _ (says 0 0 0) _ (rw (c .before .enum-told11 .given .1) at (c .before .before .before .before .before .before .pre .1)))
 
 returns-12 : tie.Need-returns-12
 returns-12 c = rw (c .before .enum-told12 .given .1) (c .disconnect-rule .ensures)

@@ -1,13 +1,14 @@
 -- `nodes::records::by_kind` meets its contract: kinds 1 to 16 are `node`'s; past the list `nodes` the kind decides `other`.
-use mathlib.Core.Path.{_≡_, sym, ap, _∙_}
+use mathlib.Core.Path.{_≡_, refl, sym, ap, _∙_}
 use mathlib.Core.Logic.{if-neg}
 use Prim.Native.Nat.{ℕ, _≤_}
 use native.Mathlib.Omega.{arith}
 use native.Mathlib.Decide.{ℕ-discrete}
 use lib.ListN.{List·getD-eq-default}
-use Rattle.nodes.specs.Records.{nodes, other, by-kind}
+use Rattle.nodes.specs.Records.{spare, nodes, other, by-kind}
+use Rattle.nodes.specs.Coded.{asks}
 use Rattle.nodes.specs.declared.Record.{Record}
-use Rattle.nodes.specs.declared.Record.the-variants.{Malformed}
+use Rattle.nodes.specs.declared.Record.the-variants.{TakeBack, Close, Malformed}
 use borrow.Author.Needs.{needs}
 use Rattle.nodes.proofs.records.by_kind.Statement.{statement}
 use Rattle.nodes.proofs.records.by_kind.Tie as tie
@@ -33,11 +34,11 @@ node-requires c κs = search needs
 
 returns : tie.Need-returns
 unfolding nodes ℕ-discrete
-returns c = rw (c .before .match .keys1) (c .unless .ensures)
+returns c = rw (c .before .match .keys1) (c .unless .ensures (TakeBack _) refl)
 
 returns-2 : tie.Need-returns-2
 unfolding nodes ℕ-discrete
-returns-2 c = rw (c .before .before .match .keys2, c .unless3 .ensures, c .before .unless2 .ensures)
+returns-2 c = rw (c .before .before .match .keys2) (c .unless3 .ensures (spare (c .before .before .before .args .b) Close) (c .before .unless2 .ensures Close refl))
 
 returns-3 : tie.Need-returns-3
 returns-3 c = search needs
@@ -47,7 +48,7 @@ unfolding nodes
 returns-4 c = let none : c .before .before .args .kind ≡ 0 = omega arith in rw none
 
 returns-5 : tie.Need-returns-5
-returns-5 c = let rest = c .before .before .match .rest in sym (unknown-kind _ _ _ (c .if2 .left) (rest .0 .1) (rest .1))
+returns-5 c = let rest = c .before .before .match .rest in ap asks (sym (unknown-kind _ _ _ (c .if2 .left) (rest .0 .1) (rest .1)))
 
 pub by-kind-spec : {M : Type 1} → statement M
 by-kind-spec =

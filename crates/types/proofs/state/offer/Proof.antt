@@ -5,6 +5,7 @@ use borrow.Author.Tests.{not-true, not-false}
 use lib.ListN.{length, getD}
 use Rattle.classes.specs.Table.{Table, table}
 use Rattle.nodes.specs.Layout.{Row, arrow, row-of}
+use Rattle.nodes.specs.Coded.{node-of}
 use Rattle.nodes.specs.Meant.{meant}
 use Rattle.types.specs.Answers.{Below}
 use Rattle.types.specs.States.{State, state, row-numbers, Opened}
@@ -26,7 +27,7 @@ abbrev asked : tie.After-first-child → tie.Else2
 asked c = c .before .before
 
 abbrev read : tie.After-arrow-at2 → tie.After-first-child
-read c = c .before .before .before .before
+read c = c .before .before .before
 
 abbrev works-out : tie.After-apply-arg8 → tie.After-gives
 works-out c = c .before .before .before .before .before .before .before .before
@@ -48,7 +49,7 @@ module _ (c : tie.Else2) where
   room : 7 * begun .args .live .kept < length (begun .args .nodes .now)
   room = c .before .before .if1 .left
 
-  below : Below (begun .args .live .kept) (begun .args .n)
+  below : Below (begun .args .live .kept) (node-of (begun .args .n))
   below = c .before .children-below .ensures .0 (not-false (c .before .children-below .result) (c .if2 .left))
 
 -- the row that was worked out is the node's
@@ -67,13 +68,13 @@ module _ (c : tie.After-gives) where
 
   -- the node with its children's arrows, as the code puts it together
   abbrev worked : Adds
-  worked = record { node = from .args .n; s = two .before .before .before .arrow-at .result; t = two .arrow-at2 .result; e = from .args .live .entries }
+  worked = record { node = from .args .n; s = two .before .before .arrow-at .result; t = two .arrow-at2 .result; e = from .args .live .entries }
 
-  row-eq : {most : ℕ} (o : Opened most (lent from)) → meant worked ≡ row-of (o .program) (from .args .n)
+  row-eq : {most : ℕ} (o : Opened most (lent from)) → meant worked ≡ row-of (o .program) (node-of (from .args .n))
   row-eq o =
-      row-is o (room past) (from .args .n) (from .pre .1 .0) (below past) (two .before .before .before .arrow-at .result) (two .arrow-at2 .result)
-      (two .before .before .before .arrow-at .ensures ∙ ap arrow-read (read two .first-child .ensures))
-      (two .arrow-at2 .ensures ∙ ap arrow-read (two .before .second-field .ensures ∙ second-child (from .args .n)))
+      row-is o (room past) (node-of (from .args .n)) (from .pre .1 .1) (below past) (two .before .before .arrow-at .result) (two .arrow-at2 .result)
+      (two .before .before .arrow-at .ensures ∙ ap arrow-read (read two .first-child .ensures))
+      (two .arrow-at2 .ensures ∙ ap arrow-read (from .pre .1 .0 .second ∙ second-child (node-of (from .args .n))))
 
 -- what applying it leaves, by its answer
 module _ (c : tie.After-apply) where
@@ -113,34 +114,31 @@ mul-if1 : tie.Need-mul-if1
 mul-if1 c = search needs
 
 returns : tie.Need-returns
-returns c = λ most o. offer-full o _ (c .before .before .before .before .before .before .before .before .before .before .pre .1 .0) (c .if1 .taken)
+returns c = λ most o. offer-full o _ (c .before .before .before .before .before .before .before .before .before .before .pre .1 .1) (c .if1 .taken)
 
 children-below-requires : tie.Need-children-below-requires
 children-below-requires c κs = search needs
 
 returns-2 : tie.Need-returns-2
-returns-2 c = λ most o. offer-no-child o (c .before .before .if1 .left) _ (start (c .before .before) .pre .1 .0) (c .before .children-below .ensures .1 (not-true (c .before .children-below .result) (c .if2 .taken)))
+returns-2 c = λ most o. offer-no-child o (c .before .before .if1 .left) _ (start (c .before .before) .pre .1 .1) (c .before .children-below .ensures .1 (not-true (c .before .children-below .result) (c .if2 .taken)))
 
 first-child-requires : tie.Need-first-child-requires
 first-child-requires c κs = search needs
 
 arrow-at-requires : tie.Need-arrow-at-requires
-arrow-at-requires c κs = rw (c .first-child .ensures) (child-row (opened (asked c)) (room (asked c)) (begun (asked c) .args .n) (begun (asked c) .pre .1 .0) (below (asked c)) 0)
-
-second-field-requires : tie.Need-second-field-requires
-second-field-requires c κs = search needs
+arrow-at-requires c κs = rw (c .first-child .ensures) (child-row (opened (asked c)) (room (asked c)) (node-of (begun (asked c) .args .n)) (begun (asked c) .pre .1 .1) (below (asked c)) 0)
 
 arrow-at-requires-2 : tie.Need-arrow-at-requires-2
-arrow-at-requires-2 c κs = let a = asked (c .before .before .before) in rw (c .second-field .ensures ∙ second-child (begun a .args .n)) (child-row (opened a) (room a) (begun a .args .n) (begun a .pre .1 .0) (below a) 1)
+arrow-at-requires-2 c κs = let a = asked (c .before .before) in rw (begun a .pre .1 .0 .second ∙ second-child (node-of (begun a .args .n))) (child-row (opened a) (room a) (node-of (begun a .args .n)) (begun a .pre .1 .1) (below a) 1)
 
 gives-requires : tie.Need-gives-requires
-gives-requires c κs = let a = asked (read c) in (entries-fit (opened a) (room a) (begun a .args .n) (begun a .pre .1 .0) (below a), begun a .pre .1 .0)
+gives-requires c κs = let a = asked (read c) in (entries-fit (opened a) (room a) (node-of (begun a .args .n)) (begun a .pre .1 .1) (below a), begun a .pre .1 .1)
 
 apply-requires : tie.Need-apply-requires
 apply-requires c κs =
     let r = works-out c in (
-      applicable (opened (past r)) (room (past r)) (from r .args .n) (from r .pre .1 .0) (below (past r)) (from r .args .pending .now) (from r .pre .1 .1) (meant (worked r)) (row-eq r (opened (past r))),
-      (entries-fit (opened (past r)) (room (past r)) (from r .args .n) (from r .pre .1 .0) (below (past r)), from r .pre .1 .0),
+      applicable (opened (past r)) (room (past r)) (node-of (from r .args .n)) (from r .pre .1 .1) (below (past r)) (from r .args .pending .now) (from r .pre .1 .2) (meant (worked r)) (row-eq r (opened (past r))),
+      (entries-fit (opened (past r)) (room (past r)) (node-of (from r .args .n)) (from r .pre .1 .1) (below (past r)), from r .pre .1 .1),
     )
 
 enum-known-rule : tie.Need-enum-known-rule
@@ -150,13 +148,13 @@ enum-known-now : tie.Need-enum-known-now
 enum-known-now c = search needs
 
 write-row-requires : tie.Need-write-row-requires
-write-row-requires c κs = row-there (opened (past (r c))) (room (past (r c)))
+write-row-requires c κs = (row-there (opened (past (r c))) (room (past (r c))), from (r c) .pre .1 .0)
 
 sub-t54 : tie.Need-sub-t54
-sub-t54 c = let w = writes c .before in links-more (opened (past (r w))) (room (past (r w))) (from (r w) .args .n) (from (r w) .pre .1 .0) (below (past (r w))) (meant (worked (r w))) (row-eq (r w) (opened (past (r w)))) (applied (a w) _ (w .before .before .now .given .1))
+sub-t54 c = let w = writes c .before in links-more (opened (past (r w))) (room (past (r w))) (node-of (from (r w) .args .n)) (from (r w) .pre .1 .1) (below (past (r w))) (meant (worked (r w))) (row-eq (r w) (opened (past (r w)))) (applied (a w) _ (w .before .before .now .given .1))
 
 add-t56 : tie.Need-add-t56
-add-t56 c = let w = writes c .before in record { fits = kept-fits (opened (past (r w))) (room (past (r w))) (from (r w) .args .n) (from (r w) .pre .1 .0) (below (past (r w))) }
+add-t56 c = let w = writes c .before in record { fits = kept-fits (opened (past (r w))) (room (past (r w))) (node-of (from (r w) .args .n)) (from (r w) .pre .1 .1) (below (past (r w))) }
 
 same-length : tie.Need-same-length
 same-length c = search needs
@@ -190,7 +188,7 @@ returns-3 c =
     let a = refused c in
     let r = row a in
     let stopped = applied a _ (c .before .rule .given .1) in
-    λ most o. offer-refused o (room (past r)) (from r .args .n) (from r .pre .1 .0) (below (past r)) (meant (worked r)) (row-eq r o) (stopped .0) (stopped .1 .2) (stopped .1 .3)
+    λ most o. offer-refused o (room (past r)) (node-of (from r .args .n)) (from r .pre .1 .1) (below (past r)) (meant (worked r)) (row-eq r o) (stopped .0) (stopped .1 .2) (stopped .1 .3)
 
 same-length-10 : tie.Need-same-length-10
 same-length-10 c = search needs
@@ -223,11 +221,11 @@ returns-4 : tie.Need-returns-4
 returns-4 c =
     let w = writes c .before in
     λ most o.
-    offer-kept o (room (past (r w))) (from (r w) .args .n) (from (r w) .pre .1 .0) (below (past (r w)))
-    (met-row o (room (past (r w))) (from (r w) .args .n) (from (r w) .pre .1 .0) (below (past (r w))) (meant (worked (r w))) (row-eq (r w) o) (applied (a w) _ (w .before .before .now .given .1)))
+    offer-kept o (room (past (r w))) (node-of (from (r w) .args .n)) (from (r w) .pre .1 .1) (below (past (r w)))
+    (met-row o (room (past (r w))) (node-of (from (r w) .args .n)) (from (r w) .pre .1 .1) (below (past (r w))) (meant (worked (r w))) (row-eq (r w) o) (applied (a w) _ (w .before .before .now .given .1)))
     (writes c .write-row .ensures
-    ∙ ap (λ (x : Arrow). row-written (from (r w) .args .nodes .now) (from (r w) .args .live .kept) (row-numbers (from (r w) .args .n) x (from (r w) .args .live .entries) (from (r w) .args .live .links))) (r w .gives .ensures)
-    ∙ ap (λ (x : Row). row-written (from (r w) .args .nodes .now) (from (r w) .args .live .kept) (row-numbers (from (r w) .args .n) (x .gives) (from (r w) .args .live .entries) (from (r w) .args .live .links))) (row-eq (r w) o))
+    ∙ ap (λ (x : Arrow). row-written (from (r w) .args .nodes .now) (from (r w) .args .live .kept) (row-numbers (node-of (from (r w) .args .n)) x (from (r w) .args .live .entries) (from (r w) .args .live .links))) (r w .gives .ensures)
+    ∙ ap (λ (x : Row). row-written (from (r w) .args .nodes .now) (from (r w) .args .live .kept) (row-numbers (node-of (from (r w) .args .n)) (x .gives) (from (r w) .args .live .entries) (from (r w) .args .live .links))) (row-eq (r w) o))
     refl
 
 pub offer-spec : {M : Type 1} → statement M
@@ -241,7 +239,6 @@ offer-spec =
     returns-2
     first-child-requires
     arrow-at-requires
-    second-field-requires
     arrow-at-requires-2
     gives-requires
     apply-requires
