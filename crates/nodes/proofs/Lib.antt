@@ -2,3 +2,4 @@ pub mod Arms
 pub mod Asked
 pub mod Copying
 pub mod Reading
+pub mod Once
