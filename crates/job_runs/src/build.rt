@@ -1,5 +1,7 @@
 // A job's bytes, written to a lent array. A place outside of the array is passed over.
 
+use formats::header::HEADER;
+
 pub const IDEN: u16 = 1;
 
 pub const UNIT: u16 = 2;
@@ -32,9 +34,6 @@ pub const CLOSE: u16 = 65;
 
 // Room for a job of a record more than may be.
 pub const ROOM: usize = 40000;
-
-// Where the records begin.
-const RECORDS: usize = 16;
 
 // A header's four numbers.
 pub struct Header {
@@ -109,7 +108,7 @@ pub(super) fn sound(count: u32) -> Header {
 // How many bytes a job of so many records has.
 pub(super) fn length(records: usize) -> usize {
     if records <= 65536 {
-        RECORDS + 8 * records
+        HEADER + 8 * records
     } else {
         0
     }

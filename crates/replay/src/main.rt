@@ -4,12 +4,11 @@
 //
 // A job that is refused ends the stream: its length is not to be trusted. Nothing is promised of what is written.
 
+use formats::header::HEADER;
 use libc::STDIN_FILENO;
 use libc::STDOUT_FILENO;
 use types::limits::LISTING;
 ghost use Prim.Native.Nat.{_≤_};
-
-const HEADER: usize = 16;
 
 // The longest job and its answers, in bytes, and the longest listing, in bytes.
 const JOB: usize = 32784;

@@ -3,13 +3,10 @@
 
 use super::page;
 use super::page::Place;
+use formats::header::EIGHT;
+use formats::header::HEADER;
 use nodes::text;
 use nodes::text::Text;
-
-// Where a job's records begin, and how many bytes a record and an answer have.
-const RECORDS: usize = 16;
-
-const EACH: usize = 8;
 
 const PAGE: usize = 8192;
 
@@ -112,14 +109,14 @@ fn record(page: &mut [u8], from: Place, index: usize, record: &[u8], answer: &[u
 
 // The line of one record, if both buffers have its bytes.
 fn record_at(page: &mut [u8], place: Place, index: usize, records: &[u8], answers: &[u8]) -> Place {
-    if records.len() / EACH <= index {
+    if records.len() / EIGHT <= index {
         return place;
     }
-    if answers.len() / EACH <= index {
+    if answers.len() / EIGHT <= index {
         return place;
     }
-    let start = EACH * index;
-    let end = start + EACH;
+    let start = EIGHT * index;
+    let end = start + EIGHT;
     let said = record(
         page,
         place,
@@ -131,7 +128,7 @@ fn record_at(page: &mut [u8], place: Place, index: usize, records: &[u8], answer
 }
 
 fn records(page: &mut [u8], from: Place, records: &[u8], answers: &[u8]) -> Place {
-    let count = records.len() / EACH;
+    let count = records.len() / EIGHT;
     let mut place = from;
     let mut i: usize = 0;
     while i < count {
@@ -249,10 +246,10 @@ fn all(page: &mut [u8], code: u32, job: &[u8], answers: &[u8], listing: &[u16]) 
     if code != 0 {
         return place;
     }
-    if job.len() < RECORDS {
+    if job.len() < HEADER {
         return place;
     }
-    place = records(page, place, &job[RECORDS..], answers);
+    place = records(page, place, &job[HEADER..], answers);
     listed(page, place, listing)
 }
 

@@ -5,6 +5,7 @@
 // that this does not fix is looked at, and a wrong one is answered with 1 and nothing else.
 
 use formats::header;
+use formats::header::EIGHT;
 use jobs::run;
 use types::limits::ENTRIES;
 use types::limits::LISTING;
@@ -29,9 +30,6 @@ const WRONG_LENGTH: u32 = 1;
 
 // Numbers of `live`: entries, links, nodes kept.
 const LIVE: usize = 3;
-
-// Bytes of a record and of its answer.
-const EIGHT: usize = 8;
 
 // Runs a job: 0, or a refusal 16 to 22 with both buffers as they were.
 #[no_mangle]
