@@ -35,7 +35,7 @@ named word a b = Word a
 abbrev pub node-of : Coded → Node
 node-of c = named (c .kind) (c .a) (c .b)
 
--- the kind of a record's first byte: 1 to 16 in document 01's order
+-- the kind that a record's first byte names: 1 to 16 in document 01's order. A byte that names none is given the last, and no record that offers has one
 unfoldable pub kinds : List Kind
 kinds = word ∷ iden ∷ unit ∷ injl ∷ injr ∷ take ∷ drop ∷ comp ∷ case ∷ assertl ∷ assertr ∷ pair ∷ disconnect ∷ disconnect-hole ∷ witness ∷ fail ∷ []
 
