@@ -8,7 +8,7 @@ use classes::union_bound;
 ghost use mathlib.Core.Path.{_≡_};
 ghost use mathlib.Core.Bool.{true, false};
 ghost use mathlib.Core.List.{List};
-ghost use Prim.Native.Nat.{ℕ, _+_, _-_, _*_, _≤_, _<_};
+ghost use Prim.Native.Nat.{ℕ, _+_, _-_, _*_, _<_};
 ghost use lib.ListN.{length, getD};
 ghost use Rattle.classes.specs.Forced.{Rule};
 ghost use Rattle.classes.specs.Table.{table, root-in};

@@ -10,7 +10,6 @@ use types::Answer;
 use types::state;
 use types::state::Live;
 use types::state::Step;
-ghost use mathlib.Core.Path.{_≡_};
 ghost use Prim.Native.Nat.{_+_, _*_, _≤_};
 ghost use lib.ListN.{length};
 ghost use Rattle.classes.specs.Table.{table};

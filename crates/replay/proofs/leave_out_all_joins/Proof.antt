@@ -1,5 +1,5 @@
 -- `replay::leave_out_all_joins` ends, and lends what it may. The measure is how many records are left.
-use mathlib.Core.Path.{_≡_, refl, _∙_}
+use mathlib.Core.Path.{_≡_, refl}
 use Prim.Native.Nat.{_-_, _≤_}
 use native.Mathlib.Omega.{arith}
 use borrow.Author.Needs.{needs}

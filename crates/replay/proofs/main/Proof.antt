@@ -1,5 +1,5 @@
 -- `replay::main` ends: the measure is how many jobs may come yet.
-use mathlib.Core.Path.{_≡_, refl, _∙_}
+use mathlib.Core.Path.{_≡_, _∙_}
 use borrow.Author.Needs.{needs}
 use lib.ListN.{length}
 use Rattle.replay.proofs.main.Statement.{statement}

@@ -1,5 +1,5 @@
 -- `nodes::records::kind_at` meets its contract: each arm's place in `kinds`; the last arm has what is no other kind.
-use mathlib.Core.Path.{_≡_, refl, sym, ap, _∙_}
+use mathlib.Core.Path.{_≡_, refl, sym}
 use mathlib.Core.Logic.{by-cases}
 use Prim.Native.Nat.{ℕ}
 use native.Mathlib.Decide.{decLt}
