@@ -1,6 +1,6 @@
 -- What the last arm of a `match` on a number is left with, where the arms above it take numbers in a row; and places in short lists.
-use mathlib.Core.Path.{_≡_, refl, sym}
-use mathlib.Core.List.{List, [], _∷_, _++_}
+use mathlib.Core.Path.{_≡_, refl}
+use mathlib.Core.List.{[], _∷_}
 use mathlib.Core.Logic.{by-cases}
 use Prim.Native.Nat.{ℕ, suc, _+_, _≤_, _<_, zero-le, suc-le-suc}
 use native.Mathlib.Decide.{decLe}
@@ -25,25 +25,10 @@ left-zero k (ℕ.suc n) none to = absurd (not-among 1 k (suc n) none (suc-le-suc
 pub left-last : (k n : ℕ) → NoneOf 0 k n → n < k + 1 → n ≡ k
 left-last k n none to = by-cases (decLe k n) (λ h. omega (arith, h)) (λ h. absurd (not-among 0 k n none zero-le (omega (arith, h))))
 
--- a place in a list of one, and in one of two
+-- the place in a list of one, and the second in one of two
 pub only : {A : Type 0} (x d : A) (i : ℕ) → i < 1 → x ≡ getD (x ∷ []) i d
 only x d ℕ.zero h = refl
 only x d (ℕ.suc i) h = absurd (omega (arith, h))
 
 pub second : (i : ℕ) → (i ≡ 0 → ⊥) → i < 2 → i ≡ 1
 second i not h = omega (arith, h, not)
-
--- where the default is what the list holds, any place will do
-pub alike : {A : Type 0} (x : A) (i : ℕ) → x ≡ getD (x ∷ []) i x
-alike x ℕ.zero = refl
-alike x (ℕ.suc i) = refl
-
-pub both-alike : {A : Type 0} (x : A) (i : ℕ) → x ≡ getD (x ∷ x ∷ []) i x
-both-alike x ℕ.zero = refl
-both-alike x (ℕ.suc i) = alike x i
-
--- and one more of it changes nothing
-pub one-more-alike : {A : Type 0} (x : A) (xs : List A) (i : ℕ) → getD (xs ++ (x ∷ [])) i x ≡ getD xs i x
-one-more-alike x [] i = sym (alike x i)
-one-more-alike x (y ∷ xs) ℕ.zero = refl
-one-more-alike x (y ∷ xs) (ℕ.suc i) = one-more-alike x xs i

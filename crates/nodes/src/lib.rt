@@ -1,7 +1,6 @@
-// What a node is, on numbers alone: the 8 bytes of a record, what each combinator adds to the tables, the rules in words. No
-// table is touched here.
+// What a node is, on numbers alone: the 8 bytes of a record, its arrow and its rules, the rules in words. No table is touched here.
 //
-// records: what 8 bytes ask for. arrow: one rule for each combinator. text: the seven rule texts.
+// records: what 8 bytes ask for. arrow: arrows and rules. text: the seven rule texts.
 
 pub mod arrow;
 pub mod records;

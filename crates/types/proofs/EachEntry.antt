@@ -21,7 +21,7 @@ use Rattle.types.specs.Applying.{Fitting, Enterable}
 first-fits : {e : ℕ} {b : Bound} {bs : List Bound} → Fitting e (b ∷ bs) → Within e b × Fitting (suc e) bs
 first-fits (Fitting.one-more w fit) = (w, fit)
 
-one-entered : {t : Table} {b : Bound} {bs : List Bound} → Enterable t (b ∷ bs) → Enterable (added t b) bs
+pub one-entered : {t : Table} {b : Bound} {bs : List Bound} → Enterable t (b ∷ bs) → Enterable (added t b) bs
 one-entered {b = b} e =
     let first = first-fits (e .fitting) in
     record {
@@ -31,7 +31,7 @@ one-entered {b = b} e =
     }
 
 -- where there is room, the entry is added
-room-added : {t u : Table} {b : Bound} {a : Added} → t .entries < limit t → AddedBy t b a u → (a ≡ Entry (t .entries)) × (u ≡ added t b)
+pub room-added : {t u : Table} {b : Bound} {a : Added} → t .entries < limit t → AddedBy t b a u → (a ≡ Entry (t .entries)) × (u ≡ added t b)
 room-added h (AddedBy.entry l) = (refl, refl)
 room-added h (AddedBy.full l) = absurd (omega arith)
 

@@ -24,12 +24,21 @@ use Rattle.nodes.specs.Layout.{Numbered, says}
 use Rattle.types.specs.States.{Meets, Stops}
 use Rattle.types.specs.States.Meets.{done, next}
 use Rattle.types.specs.States.Stops.{here as stops-here, later}
-use Rattle.types.specs.Applying.{Named, Meetable}
+use Rattle.types.specs.Applying.{Named, Meetable, Left}
 
 getD-mem : (rs : List Numbered) (i : ℕ) → i < length rs → List·Memᴰ (getD rs i (says 0 0 0)) rs
 getD-mem [] i h = absurd (omega arith)
 getD-mem (r ∷ rs) ℕ.zero h = List·Memᴰ·head refl
 getD-mem (r ∷ rs) (ℕ.suc i) h = List·Memᴰ·tail (getD-mem rs i (omega arith))
+
+-- what is left of the rules, by how many it is
+pub none-left : (t : Table) (rs : List Numbered) (first : Numbered) (n : ℕ) → Left t rs n first → n ≡ 0 → Meets t rs t
+none-left t rs first ℕ.zero l z = l
+none-left t rs first (ℕ.suc n) l z = absurd (omega (arith, z))
+
+pub some-left : (t : Table) (rs : List Numbered) (first : Numbered) (n : ℕ) → Left t rs n first → (n ≡ 0 → ⊥) → (n ≡ length rs) × (first ≡ getD rs 0 (says 0 0 0))
+some-left t rs first ℕ.zero l not = absurd (not refl)
+some-left t rs first (ℕ.suc n) l not = l
 
 pub record Joins (t₀ : Table) (rs : List Numbered) (t : Table) (pending : List ℕ) (i : ℕ) : Type 0 where
   pub made : Made t

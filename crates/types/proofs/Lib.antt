@@ -1,3 +1,4 @@
+pub mod Added
 pub mod Answering
 pub mod Applies
 pub mod Backward

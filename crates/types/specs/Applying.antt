@@ -7,11 +7,11 @@ use Rattle.classes.specs.Table.{Table, limit}
 use Rattle.classes.specs.Made.{Within, Made}
 use Rattle.classes.specs.declared.Bound.{Bound}
 use Rattle.nodes.specs.Layout.{Numbered, says, Row}
+use Rattle.nodes.specs.Meant.{meant-rule}
 use Rattle.types.specs.States.{entered, Meets, Stops}
 use Rattle.types.specs.declared.state.Met.{Met}
 use Rattle.types.specs.declared.state.Met.the-variants.{All, Clash as MetClash}
-use Rattle.types.specs.declared.state.Applied.{Applied}
-use Rattle.types.specs.declared.state.Applied.the-variants.{Fits, Clash}
+use Rattle.types.specs.declared.combinators.Entered.{Entered}
 
 -- a row written at place i of the table of nodes
 abbrev pub row-written : List ℕ → ℕ → List ℕ → List ℕ
@@ -42,6 +42,17 @@ pub record Meetable (t : Table) (pending : List ℕ) (rs : List Numbered) : Type
   pub named : Named (t .entries) rs
   pub pending-room : 2 * limit t ≤ length pending
 
+-- what is left of rules: nothing, since they hold already, or all of them, and which is the first
+abbrev pub Left : Table → List Numbered → ℕ → Numbered → Type 0
+Left t rs ℕ.zero first = Meets t rs t
+Left t rs (ℕ.suc n) first = (suc n ≡ length rs) × (first ≡ getD rs 0 (says 0 0 0))
+
+-- a row's entries are in, with its arrow and what is left of its rules
+pub record Entering (t : Table) (row : Row) (r : Entered) (u : Table) : Type 0 where
+  pub is : u ≡ entered t (row .entries)
+  pub gives : r .gives ≡ row .gives
+  pub left : Left u (row .needs) (r .rules) (meant-rule (r .first))
+
 -- the links after the rules
 abbrev pub met-links : Met → ℕ
 met-links (All l) = l
@@ -57,17 +68,3 @@ pub record Applicable (t : Table) (pending : List ℕ) (row : Row) : Type 0 wher
   pub enterable : Enterable t (row .entries)
   pub named : Named (t .entries + length (row .entries)) (row .needs)
   pub pending-room : 2 * limit t ≤ length pending
-
--- the counts after a row
-abbrev pub applied-entries : ℕ → Applied → ℕ
-applied-entries e (Fits m) = m .entries
-applied-entries e (Clash rule) = e
-
-abbrev pub applied-links : ℕ → Applied → ℕ
-applied-links n (Fits m) = m .links
-applied-links n (Clash rule) = n
-
--- a row applied: its entries are in and its rules joined, or its k-th rule clashed, and the table is what it was
-abbrev pub Applying : Table → Row → Applied → Table → Type 0
-Applying t row (Fits m) u = Meets (entered t (row .entries)) (row .needs) u
-Applying t row (Clash rule) u = (u ≡ t) × ((k : ℕ) × (w : Table) × Stops (entered t (row .entries)) (row .needs) k w × (rule ≡ getD (row .needs) k (says 0 0 0) .number))

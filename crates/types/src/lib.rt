@@ -3,6 +3,7 @@
 //
 // state: the core on lent tables. limits: how long they are for 1,024 nodes. The record calls on a state by value are the crate `calls`.
 
+mod combinators;
 pub mod limits;
 pub mod state;
 

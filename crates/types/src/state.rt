@@ -5,6 +5,7 @@
 // it). The live counts go in and out by value. How many nodes there is room for is the number of rows of `nodes`.
 
 use super::Answer;
+use super::combinators;
 use classes::Bound;
 use classes::Mark;
 use classes::context;
@@ -21,6 +22,7 @@ use nodes::Kind;
 use nodes::arrow;
 use nodes::arrow::Adds;
 use nodes::arrow::Arrow;
+use nodes::arrow::Rule;
 ghost use mathlib.Core.Path.{_≡_};
 ghost use mathlib.Core.Bool.{true, false};
 ghost use mathlib.Core.List.{List};
@@ -32,10 +34,10 @@ ghost use Rattle.classes.specs.declared.Bound.the-variants.{Free};
 ghost use Rattle.nodes.specs.Layout.{children, standing, Proper};
 ghost use Rattle.nodes.specs.Layout.{arrow as from-to};
 ghost use Rattle.nodes.specs.Coded.{node-of, kind-number, Regular};
-ghost use Rattle.nodes.specs.Meant.{Countable, meant};
+ghost use Rattle.nodes.specs.Meant.{Countable, meant, meant-rule};
 ghost use Rattle.types.specs.Answers.{Below};
 ghost use Rattle.types.specs.States.{state, entered, row-numbers, Opened};
-ghost use Rattle.types.specs.Applying.{row-written, rows-cleared, Enterable, Meetable, Meeting, met-links, Applicable, Applying, applied-entries, applied-links};
+ghost use Rattle.types.specs.Applying.{row-written, rows-cleared, Left, Meetable, Meeting, met-links};
 ghost use Rattle.types.specs.Calls.{Called};
 ghost use Rattle.types.specs.Calls.{Closing as Closes};
 ghost use Rattle.nodes.specs.declared.Record.the-variants.{Offer, TakeBack};
@@ -65,12 +67,6 @@ pub struct Step {
 pub enum Met {
     All(u16),
     Clash(u16, u16),
-}
-
-// What applying a row leaves: the counts, or the number of the rule that clashed, with everything undone.
-pub enum Applied {
-    Fits(Mark),
-    Clash(u16),
 }
 
 // The number of a node's kind in document 01.
@@ -198,47 +194,6 @@ fn standing_bound(i: u16) -> Bound
     Bound::Product(i - 1, i - 1)
 }
 
-// Adds a row's entries, and gives the number of entries then.
-fn enter(
-    parent: &mut [u16],
-    rank: &mut [u16],
-    shape: &mut [u16],
-    kind: &mut [u16],
-    left: &mut [u16],
-    right: &mut [u16],
-    live: Mark,
-    row: Adds,
-) -> u16
-    requires { ⌜ ((trail : List ℕ) × Enterable (table (now parent) (now rank) (now shape) (now kind) (now left) (now right) trail (live .entries) (live .links)) (meant row .entries)) ⌝ }
-    requires { ⌜ Countable row ⌝ }
-    ensures { λ r. ⌜ ((trail : List ℕ) →
-        table (now (parent .exit)) (now (rank .exit)) (now (shape .exit)) (now (kind .exit)) (now (left .exit)) (now (right .exit)) trail r (live .links)
-        ≡ entered (table (now (parent .entry)) (now (rank .entry)) (now (shape .entry)) (now (kind .entry)) (now (left .entry)) (now (right .entry)) trail (live .entries) (live .links)) (meant row .entries)) ⌝ }
-{
-    let links = live.links;
-    let count = arrow::entry_count(row);
-    let mut entries = live.entries;
-    let mut i = 0;
-    while i < count {
-        let now = Mark { entries, links };
-        let Added::Entry(_) = context::add(
-            parent,
-            rank,
-            shape,
-            kind,
-            left,
-            right,
-            now,
-            arrow::entry_at(row, i),
-        ) else {
-            return entries;
-        };
-        entries += 1;
-        i += 1;
-    }
-    entries
-}
-
 // The links that a join made, whatever its answer.
 fn links_made(j: Joined) -> u16
     ensures { λ r. ⌜ r ≡ made-links j ⌝ }
@@ -249,7 +204,7 @@ fn links_made(j: Joined) -> u16
     }
 }
 
-// Joins a row's rules in order, and leaves at once with the first that clashes.
+// Joins the rules that a row's entries left, `count` of them from `first` on, in order, and leaves at once with the first that clashes.
 fn meet(
     parent: &mut [u16],
     rank: &mut [u16],
@@ -261,20 +216,24 @@ fn meet(
     pending: &mut [u16],
     live: Mark,
     row: Adds,
+    count: u16,
+    first: Rule,
 ) -> Met
     requires { ⌜ Meetable (table (now parent) (now rank) (now shape) (now kind) (now left) (now right) (now trail) (live .entries) (live .links)) (now pending) (meant row .needs) ⌝ }
-    requires { ⌜ Countable row ⌝ }
+    requires { ⌜ Countable row × Left (table (now parent) (now rank) (now shape) (now kind) (now left) (now right) (now trail) (live .entries) (live .links)) (meant row .needs) count (meant-rule first) ⌝ }
     ensures { λ r. ⌜ Meeting
         (table (now (parent .entry)) (now (rank .entry)) (now (shape .entry)) (now (kind .entry)) (now (left .entry)) (now (right .entry)) (now (trail .entry)) (live .entries) (live .links))
         (meant row .needs) r
         (table (now (parent .exit)) (now (rank .exit)) (now (shape .exit)) (now (kind .entry)) (now (left .entry)) (now (right .entry)) (now (trail .exit)) (live .entries) (met-links r)) ⌝ }
 {
     let entries = live.entries;
-    let count = arrow::rule_count(row);
     let mut links = live.links;
+    if count == 0 {
+        return Met::All(links);
+    }
     let mut i = 0;
-    while i < count {
-        let r = arrow::rule_at(row, i);
+    let mut r = first;
+    loop {
         let now = Mark { entries, links };
         let joined = context::join(
             parent,
@@ -295,60 +254,10 @@ fn meet(
         };
         links += made;
         i += 1;
-    }
-    Met::All(links)
-}
-
-// Adds a row's entries and joins its rules. After a clash everything is as it was.
-fn apply(
-    parent: &mut [u16],
-    rank: &mut [u16],
-    shape: &mut [u16],
-    kind: &mut [u16],
-    left: &mut [u16],
-    right: &mut [u16],
-    trail: &mut [u16],
-    pending: &mut [u16],
-    live: Mark,
-    row: Adds,
-) -> Applied
-    requires { ⌜ Applicable (table (now parent) (now rank) (now shape) (now kind) (now left) (now right) (now trail) (live .entries) (live .links)) (now pending) (meant row) ⌝ }
-    requires { ⌜ Countable row ⌝ }
-    ensures { λ r. ⌜ Applying
-        (table (now (parent .entry)) (now (rank .entry)) (now (shape .entry)) (now (kind .entry)) (now (left .entry)) (now (right .entry)) (now (trail .entry)) (live .entries) (live .links))
-        (meant row) r
-        (table (now (parent .exit)) (now (rank .exit)) (now (shape .exit)) (now (kind .exit)) (now (left .exit)) (now (right .exit)) (now (trail .exit)) (applied-entries (live .entries) r) (applied-links (live .links) r)) ⌝ }
-{
-    let entries = enter(parent, rank, shape, kind, left, right, live, row);
-    let links = live.links;
-    let entered = Mark { entries, links };
-    match meet(
-        parent,
-        rank,
-        shape,
-        kind,
-        left,
-        right,
-        trail,
-        pending,
-        entered,
-        row,
-    ) {
-        Met::All(l) => Applied::Fits(Mark { entries, links: l }),
-        Met::Clash(rule, l) => {
-            undo::undo(
-                parent,
-                rank,
-                shape,
-                kind,
-                left,
-                right,
-                trail,
-                Mark { entries, links: l },
-                live,
-            );
-            Applied::Clash(rule)
+        if count <= i {
+            return Met::All(links);
         }
+        r = arrow::rule_at(row, i);
     }
 }
 
@@ -397,8 +306,13 @@ pub fn offer(
         t,
         e: live.entries,
     };
-    let gives = arrow::gives(row);
-    match apply(
+    let entered = combinators::enter(parent, rank, shape, kind, left, right, live.links, row);
+    let entries = entered.entries;
+    let links = live.links;
+    let now = Mark { entries, links };
+    let first = entered.first;
+    let gives = entered.gives;
+    match meet(
         parent,
         rank,
         shape,
@@ -407,20 +321,38 @@ pub fn offer(
         right,
         trail,
         pending,
-        before,
+        now,
         row,
+        entered.rules,
+        first,
     ) {
-        Applied::Clash(rule) => Step {
-            answer: Answer::Clashes(rule),
-            live,
-        },
-        Applied::Fits(now) => {
+        Met::Clash(rule, made) => {
+            undo::undo(
+                parent,
+                rank,
+                shape,
+                kind,
+                left,
+                right,
+                trail,
+                Mark {
+                    entries,
+                    links: made,
+                },
+                before,
+            );
+            Step {
+                answer: Answer::Clashes(rule),
+                live,
+            }
+        }
+        Met::All(made) => {
             write_row(nodes, kept, n, gives, before);
             Step {
-                answer: Answer::Kept(kept, now.links - before.links),
+                answer: Answer::Kept(kept, made - before.links),
                 live: Live {
-                    entries: now.entries,
-                    links: now.links,
+                    entries,
+                    links: made,
                     kept: kept + 1,
                 },
             }

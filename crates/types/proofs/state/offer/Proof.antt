@@ -8,11 +8,12 @@ use Rattle.nodes.specs.Layout.{Row, arrow, row-of}
 use Rattle.nodes.specs.Coded.{node-of}
 use Rattle.nodes.specs.Meant.{meant}
 use Rattle.types.specs.Answers.{Below}
-use Rattle.types.specs.States.{State, state, row-numbers, Opened}
-use Rattle.types.specs.Applying.{row-written, Applying, applied-entries, applied-links}
+use Rattle.types.specs.States.{State, state, entered, row-numbers, Opened}
+use Rattle.types.specs.Applying.{row-written, Applicable, Entering, Meeting, met-links}
 use Rattle.nodes.specs.declared.arrow.Adds.{Adds}
 use Rattle.nodes.specs.declared.arrow.Arrow.{Arrow}
-use Rattle.types.specs.declared.state.Applied.{Applied}
+use Rattle.types.specs.declared.state.Met.{Met}
+use Rattle.types.proofs.Applies.{meetable, clash-run, clash-marked}
 use Rattle.types.proofs.Children.{second-child}
 use Rattle.types.proofs.Offering.{offer-full, row-there, offer-no-child, child-row, row-is, entries-fit, applicable, offer-refused, kept-fits, met-row, links-more, offer-kept}
 use borrow.Author.Needs.{needs}
@@ -28,9 +29,6 @@ asked c = c .before .before
 
 abbrev read : tie.After-arrow-at2 → tie.After-first-child
 read c = c .before .before .before
-
-abbrev works-out : tie.After-apply-arg8 → tie.After-gives
-works-out c = c .before .before .before .before .before .before .before .before
 
 -- the state that was lent
 abbrev lent : tie.Start → State
@@ -52,11 +50,8 @@ module _ (c : tie.Else2) where
   below : Below (begun .args .live .kept) (node-of (begun .args .n))
   below = c .before .children-below .ensures .0 (not-false (c .before .children-below .result) (c .if2 .left))
 
--- the row that was worked out is the node's
-module _ (c : tie.After-gives) where
-  abbrev two : tie.After-arrow-at2
-  two = c .before
-
+-- the row that the arrows read make is the node's
+module _ (two : tie.After-arrow-at2) where
   abbrev past : tie.Else2
   past = asked (read two)
 
@@ -76,36 +71,52 @@ module _ (c : tie.After-gives) where
       (two .before .before .arrow-at .ensures ∙ ap arrow-read (read two .first-child .ensures))
       (two .arrow-at2 .ensures ∙ ap arrow-read (from .pre .1 .0 .second ∙ second-child (node-of (from .args .n))))
 
--- what applying it leaves, by its answer
-module _ (c : tie.After-apply) where
-  abbrev row : tie.After-gives
-  row = works-out (c .before)
+  -- so it can be applied
+  able : Applicable (lent from .classes) (from .args .pending .now) (meant worked)
+  able = applicable (opened past) (room past) (node-of (from .args .n)) (from .pre .1 .1) (below past) (from .args .pending .now) (from .pre .1 .2) (meant worked) (row-eq (opened past))
 
-  abbrev left-with : Applied → Table
-  left-with r =
-      let l = c .apply .last in
+-- its entries are in
+module _ (c : tie.After-enter) where
+  abbrev row : tie.After-arrow-at2
+  row = c .before .before .before .before .before .before .before
+
+  abbrev entered-table : Table
+  entered-table =
+      let l = c .enter .last in
       let a = from row .args in
-      table (l .0) (l .1 .0) (l .1 .1 .0) (l .1 .1 .1 .0) (l .1 .1 .1 .1 .0) (l .1 .1 .1 .1 .1 .0) (l .1 .1 .1 .1 .1 .1 .0) (applied-entries (a .live .entries) r) (applied-links (a .live .links) r)
+      table (l .0) (l .1 .0) (l .1 .1 .0) (l .1 .1 .1 .0) (l .1 .1 .1 .1 .0) (l .1 .1 .1 .1 .1 .0) (a .trail .now) (c .enter .result .entries) (a .live .links)
 
-  applied : (r : Applied) → c .apply .result ≡ r → Applying (lent (from row) .classes) (meant (worked row)) r (left-with r)
-  applied r is = subst (λ (x : Applied). Applying (lent (from row) .classes) (meant (worked row)) x (left-with x)) is (c .apply .ensures)
+  enters : Entering (lent (from row) .classes) (meant (worked row)) (c .enter .result) entered-table
+  enters = c .enter .ensures (from row .args .trail .now)
 
-abbrev refused : tie.After-known-told → tie.After-apply
-refused c = c .before .before .before .before .before .before .before .before .before .before .before .before .before .before .before .before .before .before .before
+-- what joining its rules leaves, by the answer
+module _ (c : tie.After-meet) where
+  abbrev e : tie.After-enter
+  e = c .before .before .before .before .before .before .before .before .before .before .before .before .before .before .before .before .before .before .before .before .before .before .before
 
-abbrev fits : tie.After-write-row-arg → tie.After-apply
-fits c = c .before .before .before .before .before .before .before .before .before .before .before .before .before .before .before .before .before .before .before .before
+  abbrev left-with : Met → Table
+  left-with r =
+      let l = e .enter .last in
+      let m = c .meet .last in
+      table (m .0) (m .1 .0) (m .1 .1 .0) (l .1 .1 .1 .0) (l .1 .1 .1 .1 .0) (l .1 .1 .1 .1 .1 .0) (m .1 .1 .1 .1 .1 .1 .0) (e .enter .result .entries) (met-links r)
 
-abbrev writes : tie.After-struct-known2 → tie.After-write-row
-writes c = c .before .before .before .before
+  met : (r : Met) → c .meet .result ≡ r → Meeting (entered (lent (from (row e)) .classes) (meant (worked (row e)) .entries)) (meant (worked (row e)) .needs) r (left-with r)
+  met r is =
+      subst (λ (x : Met). Meeting (entered (lent (from (row e)) .classes) (meant (worked (row e)) .entries)) (meant (worked (row e)) .needs) x (left-with x)) is
+      (subst (λ (x : Table). Meeting x (meant (worked (row e)) .needs) (c .meet .result) (left-with (c .meet .result))) (enters e .is) (c .meet .ensures))
 
--- the rules are all joined
-module _ (c : tie.After-write-row-arg) where
-  abbrev a : tie.After-apply
-  a = fits c
+-- the places of a clash and of a node kept
+abbrev clashes : tie.After-undo-arg7 → tie.After-meet
+clashes c = c .before .before .before .before .before .before .before .before .before .before .before .before .before .before .before .before .before .before .before .before
 
-  abbrev r : tie.After-gives
-  r = row a
+abbrev undoes : tie.After-slice-known27 → tie.After-undo
+undoes c = c .before .before .before .before .before .before .before .before .before .before .before .before .before .before
+
+abbrev fits : tie.After-write-row-arg → tie.After-meet
+fits c = c .before .before .before .before .before .before .before .before .before .before .before .before .before .before
+
+abbrev writes : tie.After-struct-known → tie.After-write-row
+writes c = c .before .before .before
 
 cast-if1 : tie.Need-cast-if1
 cast-if1 c = search needs
@@ -131,88 +142,102 @@ arrow-at-requires c κs = rw (c .first-child .ensures) (child-row (opened (asked
 arrow-at-requires-2 : tie.Need-arrow-at-requires-2
 arrow-at-requires-2 c κs = let a = asked (c .before .before) in rw (begun a .pre .1 .0 .second ∙ second-child (node-of (begun a .args .n))) (child-row (opened a) (room a) (node-of (begun a .args .n)) (begun a .pre .1 .1) (below a) 1)
 
-gives-requires : tie.Need-gives-requires
-gives-requires c κs = let a = asked (read c) in (entries-fit (opened a) (room a) (node-of (begun a .args .n)) (begun a .pre .1 .1) (below a), begun a .pre .1 .1)
+enter-requires : tie.Need-enter-requires
+enter-requires c κs =
+    let two = c .before .before .before .before .before .before in
+    let a = past two in (
+      (from two .args .trail .now, able two .enterable),
+      ((entries-fit (opened a) (room a) (node-of (begun a .args .n)) (begun a .pre .1 .1) (below a), begun a .pre .1 .1), able two .named),
+    )
 
-apply-requires : tie.Need-apply-requires
-apply-requires c κs =
-    let r = works-out c in (
-      applicable (opened (past r)) (room (past r)) (node-of (from r .args .n)) (from r .pre .1 .1) (below (past r)) (from r .args .pending .now) (from r .pre .1 .2) (meant (worked r)) (row-eq r (opened (past r))),
-      (entries-fit (opened (past r)) (room (past r)) (node-of (from r .args .n)) (from r .pre .1 .1) (below (past r)), from r .pre .1 .1),
+meet-requires : tie.Need-meet-requires
+meet-requires c κs =
+    let e = c .before .before .before .before .before .before .before .before .before .before .before .before .before .before .before .before .before .before .before .before .before .before in
+    let a = past (row e) in (
+      meetable (able (row e)) (entered-table e) (enters e .is),
+      ((entries-fit (opened a) (room a) (node-of (begun a .args .n)) (begun a .pre .1 .1) (below a), begun a .pre .1 .1), enters e .left),
     )
 
 enum-known-rule : tie.Need-enum-known-rule
 enum-known-rule c = search needs
 
-enum-known-now : tie.Need-enum-known-now
-enum-known-now c = search needs
+undo-requires : tie.Need-undo-requires
+undo-requires c κs = let m = met (clashes c) _ (c .before .before .before .before .before .before .before .before .rule .given .1) in clash-marked (able (row (e (clashes c)))) (m .1)
+
+enum-known-made : tie.Need-enum-known-made
+enum-known-made c = search needs
 
 write-row-requires : tie.Need-write-row-requires
-write-row-requires c κs = (row-there (opened (past (r c))) (room (past (r c))), from (r c) .pre .1 .0)
+write-row-requires c κs = let r = row (e (fits c)) in (row-there (opened (past r)) (room (past r)), from r .pre .1 .0)
 
-sub-t54 : tie.Need-sub-t54
-sub-t54 c = let w = writes c .before in links-more (opened (past (r w))) (room (past (r w))) (node-of (from (r w) .args .n)) (from (r w) .pre .1 .1) (below (past (r w))) (meant (worked (r w))) (row-eq (r w) (opened (past (r w)))) (applied (a w) _ (w .before .before .now .given .1))
+sub-t88 : tie.Need-sub-t88
+sub-t88 c =
+    let w = writes c .before in
+    let r = row (e (fits w)) in
+    links-more (opened (past r)) (room (past r)) (node-of (from r .args .n)) (from r .pre .1 .1) (below (past r)) (meant (worked r)) (row-eq r (opened (past r))) (met (fits w) _ (w .before .before .made .given .1))
 
-add-t56 : tie.Need-add-t56
-add-t56 c = let w = writes c .before in record { fits = kept-fits (opened (past (r w))) (room (past (r w))) (node-of (from (r w) .args .n)) (from (r w) .pre .1 .1) (below (past (r w))) }
+add-t90 : tie.Need-add-t90
+add-t90 c = let r = row (e (fits (writes c .before))) in record { fits = kept-fits (opened (past r)) (room (past r)) (node-of (from r .args .n)) (from r .pre .1 .1) (below (past r)) }
 
 same-length : tie.Need-same-length
-same-length c = search needs
+same-length c = let u = undoes c in let m = clashes (u .before) in u .undo .kept .0 ∙ m .meet .kept .0 ∙ e m .enter .kept .0
 
 same-length-2 : tie.Need-same-length-2
-same-length-2 c = search needs
+same-length-2 c = let u = undoes c in let m = clashes (u .before) in u .undo .kept .1 .0 ∙ m .meet .kept .1 .0 ∙ e m .enter .kept .1 .0
 
 same-length-3 : tie.Need-same-length-3
-same-length-3 c = search needs
+same-length-3 c = let u = undoes c in let m = clashes (u .before) in u .undo .kept .1 .1 .0 ∙ m .meet .kept .1 .1 .0 ∙ e m .enter .kept .1 .1 .0
 
 same-length-4 : tie.Need-same-length-4
-same-length-4 c = search needs
+same-length-4 c = let u = undoes c in let m = clashes (u .before) in u .undo .kept .1 .1 .1 .0 ∙ e m .enter .kept .1 .1 .1 .0
 
 same-length-5 : tie.Need-same-length-5
-same-length-5 c = search needs
+same-length-5 c = let u = undoes c in let m = clashes (u .before) in u .undo .kept .1 .1 .1 .1 .0 ∙ e m .enter .kept .1 .1 .1 .1 .0
 
 same-length-6 : tie.Need-same-length-6
-same-length-6 c = search needs
+same-length-6 c = let u = undoes c in let m = clashes (u .before) in u .undo .kept .1 .1 .1 .1 .1 .0 ∙ e m .enter .kept .1 .1 .1 .1 .1 .0
 
 same-length-7 : tie.Need-same-length-7
-same-length-7 c = search needs
+same-length-7 c = let u = undoes c in let m = clashes (u .before) in u .undo .kept .1 .1 .1 .1 .1 .1 .0 ∙ m .meet .kept .1 .1 .1 .1 .1 .1 .0
 
 same-length-8 : tie.Need-same-length-8
-same-length-8 c = search needs
+same-length-8 c = clashes (undoes c .before) .meet .kept .1 .1 .1 .1 .1 .1 .1 .0
 
 same-length-9 : tie.Need-same-length-9
 same-length-9 c = search needs
 
 returns-3 : tie.Need-returns-3
 returns-3 c =
-    let a = refused c in
-    let r = row a in
-    let stopped = applied a _ (c .before .rule .given .1) in
-    λ most o. offer-refused o (room (past r)) (node-of (from r .args .n)) (from r .pre .1 .1) (below (past r)) (meant (worked r)) (row-eq r o) (stopped .0) (stopped .1 .2) (stopped .1 .3)
+    let u = undoes c in
+    let m = clashes (u .before) in
+    let r = row (e m) in
+    let stopped = met m _ (u .before .before .before .before .before .before .before .before .before .rule .given .1) in
+    let back = u .undo .ensures .given-back (lent (from r) .classes) (able r .enterable .made) (clash-run (able r) (stopped .1)) refl in
+    λ most o. offer-refused o (room (past r)) (node-of (from r .args .n)) (from r .pre .1 .1) (below (past r)) (meant (worked r)) (row-eq r o) back (stopped .1) (stopped .2)
 
 same-length-10 : tie.Need-same-length-10
-same-length-10 c = search needs
+same-length-10 c = let m = fits (writes c .before) in m .meet .kept .0 ∙ e m .enter .kept .0
 
 same-length-11 : tie.Need-same-length-11
-same-length-11 c = search needs
+same-length-11 c = let m = fits (writes c .before) in m .meet .kept .1 .0 ∙ e m .enter .kept .1 .0
 
 same-length-12 : tie.Need-same-length-12
-same-length-12 c = search needs
+same-length-12 c = let m = fits (writes c .before) in m .meet .kept .1 .1 .0 ∙ e m .enter .kept .1 .1 .0
 
 same-length-13 : tie.Need-same-length-13
-same-length-13 c = search needs
+same-length-13 c = e (fits (writes c .before)) .enter .kept .1 .1 .1 .0
 
 same-length-14 : tie.Need-same-length-14
-same-length-14 c = search needs
+same-length-14 c = e (fits (writes c .before)) .enter .kept .1 .1 .1 .1 .0
 
 same-length-15 : tie.Need-same-length-15
-same-length-15 c = search needs
+same-length-15 c = e (fits (writes c .before)) .enter .kept .1 .1 .1 .1 .1 .0
 
 same-length-16 : tie.Need-same-length-16
-same-length-16 c = search needs
+same-length-16 c = fits (writes c .before) .meet .kept .1 .1 .1 .1 .1 .1 .0
 
 same-length-17 : tie.Need-same-length-17
-same-length-17 c = search needs
+same-length-17 c = fits (writes c .before) .meet .kept .1 .1 .1 .1 .1 .1 .1 .0
 
 same-length-18 : tie.Need-same-length-18
 same-length-18 c = search needs
@@ -220,12 +245,13 @@ same-length-18 c = search needs
 returns-4 : tie.Need-returns-4
 returns-4 c =
     let w = writes c .before in
+    let r = row (e (fits w)) in
     λ most o.
-    offer-kept o (room (past (r w))) (node-of (from (r w) .args .n)) (from (r w) .pre .1 .1) (below (past (r w)))
-    (met-row o (room (past (r w))) (node-of (from (r w) .args .n)) (from (r w) .pre .1 .1) (below (past (r w))) (meant (worked (r w))) (row-eq (r w) o) (applied (a w) _ (w .before .before .now .given .1)))
+    offer-kept o (room (past r)) (node-of (from r .args .n)) (from r .pre .1 .1) (below (past r))
+    (met-row o (room (past r)) (node-of (from r .args .n)) (from r .pre .1 .1) (below (past r)) (meant (worked r)) (row-eq r o) (met (fits w) _ (w .before .before .made .given .1)))
     (writes c .write-row .ensures
-    ∙ ap (λ (x : Arrow). row-written (from (r w) .args .nodes .now) (from (r w) .args .live .kept) (row-numbers (node-of (from (r w) .args .n)) x (from (r w) .args .live .entries) (from (r w) .args .live .links))) (r w .gives .ensures)
-    ∙ ap (λ (x : Row). row-written (from (r w) .args .nodes .now) (from (r w) .args .live .kept) (row-numbers (node-of (from (r w) .args .n)) (x .gives) (from (r w) .args .live .entries) (from (r w) .args .live .links))) (row-eq (r w) o))
+    ∙ ap (λ (x : Arrow). row-written (from r .args .nodes .now) (from r .args .live .kept) (row-numbers (node-of (from r .args .n)) x (from r .args .live .entries) (from r .args .live .links))) (enters (e (fits w)) .gives)
+    ∙ ap (λ (x : Row). row-written (from r .args .nodes .now) (from r .args .live .kept) (row-numbers (node-of (from r .args .n)) (x .gives) (from r .args .live .entries) (from r .args .live .links))) (row-eq r o))
     refl
 
 pub offer-spec : {M : Type 1} → statement M
@@ -240,13 +266,14 @@ offer-spec =
     first-child-requires
     arrow-at-requires
     arrow-at-requires-2
-    gives-requires
-    apply-requires
+    enter-requires
+    meet-requires
     enum-known-rule
-    enum-known-now
+    undo-requires
+    enum-known-made
     write-row-requires
-    sub-t54
-    add-t56
+    sub-t88
+    add-t90
     same-length
     same-length-2
     same-length-3

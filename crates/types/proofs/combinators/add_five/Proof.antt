@@ -1,0 +1,72 @@
+-- `types::combinators::add_five` meets its contract: the one call's entries, then the other's.
+use mathlib.Core.List.{List, [], _∷_}
+use Prim.Native.Nat.{ℕ}
+use Rattle.classes.specs.Table.{Table, table}
+use Rattle.classes.specs.declared.Bound.{Bound}
+use Rattle.classes.specs.declared.Bound.the-variants.{Free}
+use Rattle.types.proofs.Added.{front, rest, both}
+use borrow.Author.Needs.{needs}
+use Rattle.types.proofs.combinators.add_five.Statement.{statement}
+use Rattle.types.proofs.combinators.add_five.Tie as tie
+
+-- the table that was lent
+abbrev lent : tie.Start → List ℕ → Table
+lent c trail = table (c .args .parent .now) (c .args .rank .now) (c .args .shape .now) (c .args .kind .now) (c .args .left .now) (c .args .right .now) trail (c .args .entries) (c .args .links)
+
+-- and after the first call
+abbrev then : tie.After-add-two → List ℕ → Table
+then c trail = let l = c .add-two .last in table (l .0) (l .1 .0) (l .1 .1 .0) (l .1 .1 .1 .0) (l .1 .1 .1 .1 .0) (l .1 .1 .1 .1 .1 .0) trail (c .add-two .result) (c .before .before .before .before .before .before .before .before .before .before .before .before .before .args .links)
+
+abbrev some : tie.Start → List Bound
+some c = Free ∷ Free ∷ []
+
+abbrev others : tie.Start → List Bound
+others c = c .args .a ∷ c .args .b ∷ c .args .c ∷ []
+
+add-two-requires : tie.Need-add-two-requires
+add-two-requires c κs = let start = c .before .before .before .before .before .before .before .before .before .before .before .before in front (lent start) (some start) (others start) (start .pre)
+
+add-three-requires : tie.Need-add-three-requires
+add-three-requires c κs =
+    let first = c .before .before .before .before .before .before .before .before .before .before .before .before .before .before .before .before .before .before in
+    let start = first .before .before .before .before .before .before .before .before .before .before .before .before .before in
+    rest (lent start) (some start) (others start) (then first) (first .add-two .ensures) (start .pre)
+
+same-length : tie.Need-same-length
+same-length c = search needs
+
+same-length-2 : tie.Need-same-length-2
+same-length-2 c = search needs
+
+same-length-3 : tie.Need-same-length-3
+same-length-3 c = search needs
+
+same-length-4 : tie.Need-same-length-4
+same-length-4 c = search needs
+
+same-length-5 : tie.Need-same-length-5
+same-length-5 c = search needs
+
+same-length-6 : tie.Need-same-length-6
+same-length-6 c = search needs
+
+returns : tie.Need-returns
+returns c =
+    let second = c .before .before .before .before .before .before .before .before .before .before .before .before in
+    let first = second .before .before .before .before .before .before .before .before .before .before .before .before .before .before .before .before .before .before .before in
+    let start = first .before .before .before .before .before .before .before .before .before .before .before .before .before in
+    both (lent start) (some start) (others start) (then first) (first .add-two .ensures) _ (second .add-three .ensures)
+
+pub add-five-spec : {M : Type 1} → statement M
+add-five-spec =
+    tie.close
+    (tie.spec
+    add-two-requires
+    add-three-requires
+    same-length
+    same-length-2
+    same-length-3
+    same-length-4
+    same-length-5
+    same-length-6
+    returns)
