@@ -132,6 +132,7 @@ fn add_five(
         table (now (parent .exit)) (now (rank .exit)) (now (shape .exit)) (now (kind .exit)) (now (left .exit)) (now (right .exit)) trail r links
         ≡ entered (table (now (parent .entry)) (now (rank .entry)) (now (shape .entry)) (now (kind .entry)) (now (left .entry)) (now (right .entry)) trail entries links) (Free ∷ Free ∷ a ∷ b ∷ c ∷ [])) ⌝ }
 {
+    let free = Bound::Free;
     let then = add_two(
         parent,
         rank,
@@ -141,8 +142,8 @@ fn add_five(
         right,
         links,
         entries,
-        Bound::Free,
-        Bound::Free,
+        free,
+        free,
     );
     add_three(parent, rank, shape, kind, left, right, links, then, a, b, c)
 }
@@ -166,6 +167,7 @@ fn add_seven(
         table (now (parent .exit)) (now (rank .exit)) (now (shape .exit)) (now (kind .exit)) (now (left .exit)) (now (right .exit)) trail r links
         ≡ entered (table (now (parent .entry)) (now (rank .entry)) (now (shape .entry)) (now (kind .entry)) (now (left .entry)) (now (right .entry)) trail entries links) (Free ∷ Free ∷ Free ∷ Free ∷ a ∷ b ∷ c ∷ [])) ⌝ }
 {
+    let free = Bound::Free;
     let then = add_two(
         parent,
         rank,
@@ -175,8 +177,8 @@ fn add_seven(
         right,
         links,
         entries,
-        Bound::Free,
-        Bound::Free,
+        free,
+        free,
     );
     add_five(parent, rank, shape, kind, left, right, links, then, a, b, c)
 }
@@ -201,6 +203,7 @@ fn add_case(
 {
     let sum = Bound::Sum(entries, entries + 1);
     let product = Bound::Product(entries + 4, entries + 2);
+    let free = Bound::Free;
     let two = add_two(
         parent,
         rank,
@@ -210,8 +213,8 @@ fn add_case(
         right,
         links,
         entries,
-        Bound::Free,
-        Bound::Free,
+        free,
+        free,
     );
     let four = add_two(
         parent,
@@ -222,8 +225,8 @@ fn add_case(
         right,
         links,
         two,
-        Bound::Free,
-        Bound::Free,
+        free,
+        free,
     );
     let six = add_two(
         parent,
@@ -258,6 +261,7 @@ fn add_halves(
         ≡ entered (table (now (parent .entry)) (now (rank .entry)) (now (shape .entry)) (now (kind .entry)) (now (left .entry)) (now (right .entry)) trail entries links) (case-entries entries (Product entries (entries + 2) ∷ Product (entries + 1) (entries + 2) ∷ []))) ⌝ }
 {
     let second = Bound::Product(entries + 1, entries + 2);
+    let first = Bound::Product(entries, entries + 2);
     let then = add_case(
         parent,
         rank,
@@ -267,7 +271,7 @@ fn add_halves(
         right,
         links,
         entries,
-        Bound::Product(entries, entries + 2),
+        first,
     );
     add_one(parent, rank, shape, kind, left, right, links, then, second)
 }
@@ -307,6 +311,7 @@ pub fn enter(
     let s = row.s;
     let t = row.t;
     let e = row.e;
+    let free = Bound::Free;
     let none = Rule {
         number: 0,
         one: 0,
@@ -315,17 +320,7 @@ pub fn enter(
     match combinator {
         Kind::Iden => {
             let gives = from_to(e, e);
-            let entries = add_one(
-                parent,
-                rank,
-                shape,
-                kind,
-                left,
-                right,
-                links,
-                e,
-                Bound::Free,
-            );
+            let entries = add_one(parent, rank, shape, kind, left, right, links, e, free);
             Entered {
                 entries,
                 gives,
@@ -335,17 +330,7 @@ pub fn enter(
         }
         Kind::Unit => {
             let gives = from_to(e, ONE);
-            let entries = add_one(
-                parent,
-                rank,
-                shape,
-                kind,
-                left,
-                right,
-                links,
-                e,
-                Bound::Free,
-            );
+            let entries = add_one(parent, rank, shape, kind, left, right, links, e, free);
             Entered {
                 entries,
                 gives,
@@ -355,18 +340,8 @@ pub fn enter(
         }
         Kind::InjL => {
             let gives = from_to(s.source, e + 1);
-            let entries = add_two(
-                parent,
-                rank,
-                shape,
-                kind,
-                left,
-                right,
-                links,
-                e,
-                Bound::Free,
-                Bound::Sum(s.target, e),
-            );
+            let sum = Bound::Sum(s.target, e);
+            let entries = add_two(parent, rank, shape, kind, left, right, links, e, free, sum);
             Entered {
                 entries,
                 gives,
@@ -376,18 +351,8 @@ pub fn enter(
         }
         Kind::InjR => {
             let gives = from_to(s.source, e + 1);
-            let entries = add_two(
-                parent,
-                rank,
-                shape,
-                kind,
-                left,
-                right,
-                links,
-                e,
-                Bound::Free,
-                Bound::Sum(e, s.target),
-            );
+            let sum = Bound::Sum(e, s.target);
+            let entries = add_two(parent, rank, shape, kind, left, right, links, e, free, sum);
             Entered {
                 entries,
                 gives,
@@ -397,6 +362,7 @@ pub fn enter(
         }
         Kind::Take => {
             let gives = from_to(e + 1, s.target);
+            let product = Bound::Product(s.source, e);
             let entries = add_two(
                 parent,
                 rank,
@@ -406,8 +372,8 @@ pub fn enter(
                 right,
                 links,
                 e,
-                Bound::Free,
-                Bound::Product(s.source, e),
+                free,
+                product,
             );
             Entered {
                 entries,
@@ -418,6 +384,7 @@ pub fn enter(
         }
         Kind::Drop => {
             let gives = from_to(e + 1, s.target);
+            let product = Bound::Product(e, s.source);
             let entries = add_two(
                 parent,
                 rank,
@@ -427,8 +394,8 @@ pub fn enter(
                 right,
                 links,
                 e,
-                Bound::Free,
-                Bound::Product(e, s.source),
+                free,
+                product,
             );
             Entered {
                 entries,
@@ -473,17 +440,8 @@ pub fn enter(
                 one: s.source,
                 other: e + 6,
             };
-            let entries = add_case(
-                parent,
-                rank,
-                shape,
-                kind,
-                left,
-                right,
-                links,
-                e,
-                Bound::Product(e, e + 2),
-            );
+            let half = Bound::Product(e, e + 2);
+            let entries = add_case(parent, rank, shape, kind, left, right, links, e, half);
             Entered {
                 entries,
                 gives,
@@ -498,17 +456,8 @@ pub fn enter(
                 one: s.source,
                 other: e + 6,
             };
-            let entries = add_case(
-                parent,
-                rank,
-                shape,
-                kind,
-                left,
-                right,
-                links,
-                e,
-                Bound::Product(e + 1, e + 2),
-            );
+            let half = Bound::Product(e + 1, e + 2);
+            let entries = add_case(parent, rank, shape, kind, left, right, links, e, half);
             Entered {
                 entries,
                 gives,
@@ -523,17 +472,8 @@ pub fn enter(
                 one: s.source,
                 other: t.source,
             };
-            let entries = add_one(
-                parent,
-                rank,
-                shape,
-                kind,
-                left,
-                right,
-                links,
-                e,
-                Bound::Product(s.target, t.target),
-            );
+            let product = Bound::Product(s.target, t.target);
+            let entries = add_one(parent, rank, shape, kind, left, right, links, e, product);
             Entered {
                 entries,
                 gives,
@@ -548,19 +488,10 @@ pub fn enter(
                 one: s.source,
                 other: e + 2,
             };
-            let entries = add_five(
-                parent,
-                rank,
-                shape,
-                kind,
-                left,
-                right,
-                links,
-                e,
-                Bound::Product(POWER_256, e),
-                Bound::Product(e + 1, t.source),
-                Bound::Product(e + 1, t.target),
-            );
+            let a = Bound::Product(POWER_256, e);
+            let b = Bound::Product(e + 1, t.source);
+            let c = Bound::Product(e + 1, t.target);
+            let entries = add_five(parent, rank, shape, kind, left, right, links, e, a, b, c);
             Entered {
                 entries,
                 gives,
@@ -575,19 +506,10 @@ pub fn enter(
                 one: s.source,
                 other: e + 4,
             };
-            let entries = add_seven(
-                parent,
-                rank,
-                shape,
-                kind,
-                left,
-                right,
-                links,
-                e,
-                Bound::Product(POWER_256, e),
-                Bound::Product(e + 1, e + 2),
-                Bound::Product(e + 1, e + 3),
-            );
+            let a = Bound::Product(POWER_256, e);
+            let b = Bound::Product(e + 1, e + 2);
+            let c = Bound::Product(e + 1, e + 3);
+            let entries = add_seven(parent, rank, shape, kind, left, right, links, e, a, b, c);
             Entered {
                 entries,
                 gives,
@@ -597,18 +519,7 @@ pub fn enter(
         }
         Kind::Witness => {
             let gives = from_to(e, e + 1);
-            let entries = add_two(
-                parent,
-                rank,
-                shape,
-                kind,
-                left,
-                right,
-                links,
-                e,
-                Bound::Free,
-                Bound::Free,
-            );
+            let entries = add_two(parent, rank, shape, kind, left, right, links, e, free, free);
             Entered {
                 entries,
                 gives,
@@ -618,18 +529,7 @@ pub fn enter(
         }
         Kind::Fail => {
             let gives = from_to(e, e + 1);
-            let entries = add_two(
-                parent,
-                rank,
-                shape,
-                kind,
-                left,
-                right,
-                links,
-                e,
-                Bound::Free,
-                Bound::Free,
-            );
+            let entries = add_two(parent, rank, shape, kind, left, right, links, e, free, free);
             Entered {
                 entries,
                 gives,

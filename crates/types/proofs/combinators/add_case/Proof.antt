@@ -57,14 +57,14 @@ module _ (c : tie.After-add-two3) where
   after-six : (trail : List ℕ) × Enterable (six c trail) (last (begun (first second)))
   after-six = rest (four second) (forms (begun (first second))) (last (begun (first second))) (six c) (c .add-two3 .ensures) (after-four second)
 
-add-t15 : tie.Need-add-t15
-add-t15 c = search needs
-
-add-t15-2 : tie.Need-add-t15-2
-add-t15-2 c = search needs
-
 add-t16 : tie.Need-add-t16
 add-t16 c = search needs
+
+add-t16-2 : tie.Need-add-t16-2
+add-t16-2 c = search needs
+
+add-t17 : tie.Need-add-t17
+add-t17 c = search needs
 
 add-two-requires : tie.Need-add-two-requires
 add-two-requires c κs = let start = c .before .before .before .before .before .before .before .before .before .before .before .before in front (lent start) free (free ++ forms start ++ last start) (start .pre .1)
@@ -111,9 +111,9 @@ pub add-case-spec : {M : Type 1} → statement M
 add-case-spec =
     tie.close
     (tie.spec
-    add-t15
-    add-t15-2
     add-t16
+    add-t16-2
+    add-t17
     add-two-requires
     add-two-requires-2
     add-two-requires-3

@@ -24,14 +24,14 @@ some c = case-entries (c .args .entries) (Product (c .args .entries) (c .args .e
 abbrev others : tie.Start → List Bound
 others c = Product (c .args .entries + 1) (c .args .entries + 2) ∷ []
 
-add-t11 : tie.Need-add-t11
-add-t11 c = search needs
-
 add-t12 : tie.Need-add-t12
 add-t12 c = search needs
 
-add-t11-2 : tie.Need-add-t11-2
-add-t11-2 c = search needs
+add-t13 : tie.Need-add-t13
+add-t13 c = search needs
+
+add-t12-2 : tie.Need-add-t12-2
+add-t12-2 c = search needs
 
 add-case-requires : tie.Need-add-case-requires
 add-case-requires c κs = let start = c .before .before .before .before .before .before .before .before .before .before .before .before in (start .pre .0, front (lent start) (some start) (others start) (start .pre .1))
@@ -71,9 +71,9 @@ pub add-halves-spec : {M : Type 1} → statement M
 add-halves-spec =
     tie.close
     (tie.spec
-    add-t11
     add-t12
-    add-t11-2
+    add-t13
+    add-t12-2
     add-case-requires
     add-one-requires
     same-length

@@ -99,8 +99,8 @@ add-from-to-6 c = search needs
 from-to-requires-8 : tie.Need-from-to-requires-8
 from-to-requires-8 c κs = search needs
 
-add-t142 : tie.Need-add-t142
-add-t142 c = search needs
+add-t146 : tie.Need-add-t146
+add-t146 c = search needs
 
 add-halves-requires : tie.Need-add-halves-requires
 add-halves-requires c κs = (c .before .before .before .before .before .before .before .before .before .before .before .before .before .before .before .before .before .before .pre .1 .0 .0, rw (c .before .before .before .before .before .before .before .enum-told8 .given .1) at (c .before .before .before .before .before .before .before .before .before .before .before .before .before .before .before .before .before .before .pre .0))
@@ -117,11 +117,11 @@ add-from-to-8 c = search needs
 from-to-requires-9 : tie.Need-from-to-requires-9
 from-to-requires-9 c κs = search needs
 
-add-t156 : tie.Need-add-t156
-add-t156 c = search needs
+add-t160 : tie.Need-add-t160
+add-t160 c = search needs
 
-add-t157 : tie.Need-add-t157
-add-t157 c = search needs
+add-t161 : tie.Need-add-t161
+add-t161 c = search needs
 
 add-case-requires : tie.Need-add-case-requires
 add-case-requires c κs = (c .before .before .before .before .before .before .before .before .before .before .before .before .before .before .before .before .before .before .pre .1 .0 .0, rw (c .before .before .before .before .before .before .before .enum-told9 .given .1) at (c .before .before .before .before .before .before .before .before .before .before .before .before .before .before .before .before .before .before .pre .0))
@@ -138,14 +138,14 @@ add-from-to-10 c = search needs
 from-to-requires-10 : tie.Need-from-to-requires-10
 from-to-requires-10 c κs = search needs
 
-add-t171 : tie.Need-add-t171
-add-t171 c = search needs
+add-t174 : tie.Need-add-t174
+add-t174 c = search needs
 
-add-t172 : tie.Need-add-t172
-add-t172 c = search needs
+add-t175 : tie.Need-add-t175
+add-t175 c = search needs
 
-add-t171-2 : tie.Need-add-t171-2
-add-t171-2 c = search needs
+add-t174-2 : tie.Need-add-t174-2
+add-t174-2 c = search needs
 
 add-case-requires-2 : tie.Need-add-case-requires-2
 add-case-requires-2 c κs = (c .before .before .before .before .before .before .before .before .before .before .before .before .before .before .before .before .before .before .pre .1 .0 .0, rw (c .before .before .before .before .before .before .before .enum-told10 .given .1) at (c .before .before .before .before .before .before .before .before .before .before .before .before .before .before .before .before .before .before .pre .0))
@@ -174,14 +174,14 @@ add-from-to-11 c = search needs
 from-to-requires-12 : tie.Need-from-to-requires-12
 from-to-requires-12 c κs = search needs
 
-add-t202 : tie.Need-add-t202
-add-t202 c = search needs
+add-t203 : tie.Need-add-t203
+add-t203 c = search needs
 
-add-t202-2 : tie.Need-add-t202-2
-add-t202-2 c = search needs
+add-t203-2 : tie.Need-add-t203-2
+add-t203-2 c = search needs
 
-add-t217 : tie.Need-add-t217
-add-t217 c = search needs
+add-t203-3 : tie.Need-add-t203-3
+add-t203-3 c = search needs
 
 add-five-requires : tie.Need-add-five-requires
 add-five-requires c κs = rw (c .before .before .before .before .before .before .before .enum-told12 .given .1) at (c .before .before .before .before .before .before .before .before .before .before .before .before .before .before .before .before .before .before .pre .0)
@@ -195,20 +195,20 @@ add-from-to-12 c = search needs
 from-to-requires-13 : tie.Need-from-to-requires-13
 from-to-requires-13 c κs = search needs
 
-add-t219 : tie.Need-add-t219
-add-t219 c = search needs
+add-t216 : tie.Need-add-t216
+add-t216 c = search needs
 
-add-t219-2 : tie.Need-add-t219-2
-add-t219-2 c = search needs
+add-t216-2 : tie.Need-add-t216-2
+add-t216-2 c = search needs
 
-add-t233 : tie.Need-add-t233
-add-t233 c = search needs
+add-t217 : tie.Need-add-t217
+add-t217 c = search needs
 
-add-t235 : tie.Need-add-t235
-add-t235 c = search needs
+add-t216-3 : tie.Need-add-t216-3
+add-t216-3 c = search needs
 
-add-t236 : tie.Need-add-t236
-add-t236 c = search needs
+add-t217-2 : tie.Need-add-t217-2
+add-t217-2 c = search needs
 
 add-seven-requires : tie.Need-add-seven-requires
 add-seven-requires c κs = rw (c .before .before .before .before .before .before .before .enum-told13 .given .1) at (c .before .before .before .before .before .before .before .before .before .before .before .before .before .before .before .before .before .before .pre .0)
@@ -584,22 +584,22 @@ enter-spec =
     add-from-to-5
     add-from-to-6
     from-to-requires-8
-    add-t142
+    add-t146
     add-halves-requires
     enum-told-9
     add-from-to-7
     add-from-to-8
     from-to-requires-9
-    add-t156
-    add-t157
+    add-t160
+    add-t161
     add-case-requires
     enum-told-10
     add-from-to-9
     add-from-to-10
     from-to-requires-10
-    add-t171
-    add-t172
-    add-t171-2
+    add-t174
+    add-t175
+    add-t174-2
     add-case-requires-2
     enum-told-11
     from-to-requires-11
@@ -608,18 +608,18 @@ enter-spec =
     enum-told-12
     add-from-to-11
     from-to-requires-12
-    add-t202
-    add-t202-2
-    add-t217
+    add-t203
+    add-t203-2
+    add-t203-3
     add-five-requires
     enum-told-13
     add-from-to-12
     from-to-requires-13
-    add-t219
-    add-t219-2
-    add-t233
-    add-t235
-    add-t236
+    add-t216
+    add-t216-2
+    add-t217
+    add-t216-3
+    add-t217-2
     add-seven-requires
     enum-told-14
     add-from-to-13
