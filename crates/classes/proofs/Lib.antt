@@ -11,6 +11,7 @@ pub mod GivenBack
 pub mod Joins
 pub mod Judging
 pub mod Linking
+pub mod Meetings
 pub mod Pending
 pub mod Premises
 pub mod Rewinding

@@ -5,9 +5,9 @@ use super::Bound;
 use super::Mark;
 use super::union_bound;
 ghost use mathlib.Core.Path.{_≡_};
-ghost use Prim.Native.Nat.{ℕ, _+_, _*_, _≤_, _<_};
+ghost use Prim.Native.Nat.{ℕ, min, _+_, _*_, _≤_, _<_};
 ghost use mathlib.Core.List.{List};
-ghost use lib.ListN.{length, getD, set};
+ghost use lib.ListN.{length, getD};
 ghost use Rattle.classes.specs.Table.{table, root-in, given-in, kind-of, left-of, right-of};
 ghost use Rattle.classes.specs.Merging.{meeting, shown-by, upper-in, lower-in};
 ghost use Rattle.classes.specs.Made.{Made};
@@ -154,39 +154,47 @@ pub fn shown(
     bound(kind, left, right, s)
 }
 
-// What follows when one class has both bounds, the standing class's first.
-fn meet(stands: Bound, below: Bound) -> Meeting
-    ensures { λ r. ⌜ r ≡ meeting stands below ⌝ }
+// The number of the form that a kind is read as: past 3 it is a product.
+fn form(k: u16) -> u16
+    ensures { λ r. ⌜ r ≡ min k 3 ⌝ }
 {
-    match stands {
-        Bound::Free => Meeting::Agree,
-        Bound::Unit => match below {
-            Bound::Free | Bound::Unit => Meeting::Agree,
-            Bound::Sum(_, _) | Bound::Product(_, _) => Meeting::Apart,
-        },
-        Bound::Sum(l, r) => match below {
-            Bound::Free => Meeting::Agree,
-            Bound::Sum(m, s) => Meeting::Parts(l, m, r, s),
-            Bound::Unit | Bound::Product(_, _) => Meeting::Apart,
-        },
-        Bound::Product(l, r) => match below {
-            Bound::Free => Meeting::Agree,
-            Bound::Product(m, s) => Meeting::Parts(l, m, r, s),
-            Bound::Unit | Bound::Sum(_, _) => Meeting::Apart,
-        },
+    if k < 3 { k } else { 3 }
+}
+
+// What follows when one class has the bounds of both entries, the standing class's first.
+fn meet(kind: &[u16], left: &[u16], right: &[u16], own: u16, other: u16) -> Meeting
+    requires { ⌜ (own < length (now kind)) × (own < length (now left)) × (own < length (now right)) ⌝ }
+    requires { ⌜ (other < length (now kind)) × (other < length (now left)) × (other < length (now right)) ⌝ }
+    ensures { λ r. ⌜ r ≡ meeting (given-in (now (kind .entry)) (now (left .entry)) (now (right .entry)) own) (given-in (now (kind .entry)) (now (left .entry)) (now (right .entry)) other) ⌝ }
+{
+    let k = kind[own as usize];
+    let l = kind[other as usize];
+    if k == 0 {
+        return Meeting::Agree;
     }
+    if l == 0 {
+        return Meeting::Agree;
+    }
+    if form(k) != form(l) {
+        return Meeting::Apart;
+    }
+    if k == 1 {
+        return Meeting::Agree;
+    }
+    Meeting::Parts(
+        left[own as usize],
+        left[other as usize],
+        right[own as usize],
+        right[other as usize],
+    )
 }
 
 // The entry whose bound the joined class shows: the standing class's own, or the other's if that one is free.
-fn shows(stands: Bound, own: u16, other: u16) -> u16
-    ensures { λ r. ⌜ r ≡ shown-by stands own other ⌝ }
+fn shows(kind: &[u16], own: u16, other: u16) -> u16
+    requires { ⌜ own < length (now kind) ⌝ }
+    ensures { λ r. ⌜ ((left right : List ℕ) → r ≡ shown-by (given-in (now (kind .entry)) left right own) own other) ⌝ }
 {
-    match stands {
-        Bound::Free => other,
-        Bound::Unit => own,
-        Bound::Sum(_, _) => own,
-        Bound::Product(_, _) => own,
-    }
+    if kind[own as usize] == 0 { other } else { own }
 }
 
 // Of two roots, the one that stands and the one that goes below it: the higher rank stands, on equal ranks the first.
@@ -256,11 +264,9 @@ fn merge(
 {
     let own = shape[stands as usize];
     let other = shape[below as usize];
-    let first = bound(kind, left, right, own);
-    let second = bound(kind, left, right, other);
     let higher = union_bound::raised(rank[below as usize], rank[stands as usize]);
-    let shape_then = shows(first, own, other);
-    let met = meet(first, second);
+    let shape_then = shows(kind, own, other);
+    let met = meet(kind, left, right, own, other);
     if let Meeting::Apart = met {
         return Turn::Clash;
     }
