@@ -340,8 +340,8 @@ pub fn enter(
         }
         Kind::InjL => {
             let gives = from_to(s.source, e + 1);
-            let sum = Bound::Sum(s.target, e);
-            let entries = add_two(parent, rank, shape, kind, left, right, links, e, free, sum);
+            let b = Bound::Sum(s.target, e);
+            let entries = add_two(parent, rank, shape, kind, left, right, links, e, free, b);
             Entered {
                 entries,
                 gives,
@@ -351,8 +351,8 @@ pub fn enter(
         }
         Kind::InjR => {
             let gives = from_to(s.source, e + 1);
-            let sum = Bound::Sum(e, s.target);
-            let entries = add_two(parent, rank, shape, kind, left, right, links, e, free, sum);
+            let b = Bound::Sum(e, s.target);
+            let entries = add_two(parent, rank, shape, kind, left, right, links, e, free, b);
             Entered {
                 entries,
                 gives,
@@ -362,19 +362,8 @@ pub fn enter(
         }
         Kind::Take => {
             let gives = from_to(e + 1, s.target);
-            let product = Bound::Product(s.source, e);
-            let entries = add_two(
-                parent,
-                rank,
-                shape,
-                kind,
-                left,
-                right,
-                links,
-                e,
-                free,
-                product,
-            );
+            let b = Bound::Product(s.source, e);
+            let entries = add_two(parent, rank, shape, kind, left, right, links, e, free, b);
             Entered {
                 entries,
                 gives,
@@ -384,19 +373,8 @@ pub fn enter(
         }
         Kind::Drop => {
             let gives = from_to(e + 1, s.target);
-            let product = Bound::Product(e, s.source);
-            let entries = add_two(
-                parent,
-                rank,
-                shape,
-                kind,
-                left,
-                right,
-                links,
-                e,
-                free,
-                product,
-            );
+            let b = Bound::Product(e, s.source);
+            let entries = add_two(parent, rank, shape, kind, left, right, links, e, free, b);
             Entered {
                 entries,
                 gives,
@@ -472,8 +450,8 @@ pub fn enter(
                 one: s.source,
                 other: t.source,
             };
-            let product = Bound::Product(s.target, t.target);
-            let entries = add_one(parent, rank, shape, kind, left, right, links, e, product);
+            let b = Bound::Product(s.target, t.target);
+            let entries = add_one(parent, rank, shape, kind, left, right, links, e, b);
             Entered {
                 entries,
                 gives,
