@@ -1,11 +1,13 @@
 -- Entries added a few at a time, and what is left of a node's rules then.
 use mathlib.Core.Path.{_≡_, refl, sym, ap, _∙_, subst}
+use mathlib.Core.Logic.{by-cases}
 use mathlib.Core.List.{List, [], _∷_, _++_}
 use mathlib.Core.List.List·Memᴰ.{List·Memᴰ·head}
-use Prim.Native.Nat.{ℕ, suc, _+_, _^_, _<_}
+use Prim.Native.Nat.{ℕ, _+_, _^_, _<_}
+use native.Mathlib.Decide.{ℕ-discrete}
 use native.Mathlib.Omega.{arith}
 use lib.ListN.{length, length-append}
-use Rattle.classes.specs.Table.{Table, table, limit, root, added}
+use Rattle.classes.specs.Table.{Table, table, root, added}
 use Rattle.classes.specs.Turning.{Rooted}
 use Rattle.classes.specs.Promises.{AddedBy, entries-then}
 use Rattle.classes.specs.Merging.Merges.{ends, same}
@@ -15,7 +17,7 @@ use Rattle.classes.specs.declared.context.Added.the-variants.{Entry}
 use Rattle.classes.proofs.Closing.{made-good}
 use Rattle.classes.proofs.Premises.{made-rooted}
 use Rattle.nodes.specs.Layout.{says}
-use Rattle.types.specs.States.{entered, Meets}
+use Rattle.types.specs.States.{entered}
 use Rattle.types.specs.States.Meets.{done, next}
 use Rattle.types.specs.Applying.{Fitting, Named, Enterable, Left}
 use Rattle.types.specs.Applying.Fitting.{none, one-more}
@@ -77,6 +79,8 @@ module _ {t u : Table} {bs : List Bound} (able : Enterable t bs) (is : u ≡ ent
       subst (λ (x : Table). Rooted (x .parent) a × Rooted (x .parent) b) (sym is) (made-rooted made a (omega (arith, one, many)), made-rooted made b (omega (arith, other, many)))
 
 -- what is left of it: nothing, if the two are in one class
-pub one-left : (u : Table) (number a b n : ℕ) → (n ≡ 0 → root u a ≡ root u b) × ((n ≡ 0 → ⊥) → n ≡ 1) → Left u (says number a b ∷ []) n (says number a b)
-one-left u number a b ℕ.zero h = next (same (h .0 refl) ends) done
-one-left u number a b (ℕ.suc n) h = (h .1 (λ (z : suc n ≡ 0). omega (arith, z)), refl)
+pub one-left : (u : Table) (number a b n : ℕ) → (root u a ≡ root u b → n ≡ 0) × ((root u a ≡ root u b → ⊥) → n ≡ 1) → Left u (says number a b ∷ []) n (says number a b)
+one-left u number a b n h =
+    by-cases (ℕ-discrete (root u a) (root u b))
+    (λ together. subst (λ (k : ℕ). Left u (says number a b ∷ []) k (says number a b)) (sym (h .0 together)) (next (same together ends) done))
+    (λ apart. subst (λ (k : ℕ). Left u (says number a b ∷ []) k (says number a b)) (sym (h .1 apart)) (refl, refl))

@@ -1,37 +1,25 @@
 -- What applying a row leans on: after its entries the rules can be joined, and after a clash the mark before it is one of the run.
 use mathlib.Core.Path.{_≡_, refl, sym, subst}
 use mathlib.Core.List.{List, [], _∷_}
-use Prim.Native.Nat.{ℕ, _+_, _≤_}
-use native.Mathlib.Numerals.{add-one}
+use Prim.Native.Nat.{ℕ}
 use native.Mathlib.Omega.{arith}
-use lib.ListN.{length, length-set}
 use Rattle.classes.specs.Table.{Table, limit, mark, added}
 use Rattle.classes.specs.Made.{Made}
-use Rattle.classes.specs.Made.Made.{entered as entered-one}
 use Rattle.classes.specs.Promises.{Run, Marked}
 use Rattle.classes.specs.Promises.Run.{here}
 use Rattle.classes.specs.declared.Bound.{Bound}
 use Rattle.classes.proofs.Judging.{made-stands}
 use Rattle.nodes.specs.Layout.{Row}
 use Rattle.types.specs.States.{entered, Stops}
-use Rattle.types.specs.Applying.{Fitting, Named, Enterable, Meetable, Applicable}
-use Rattle.types.specs.Applying.Fitting.{one-more}
+use Rattle.types.specs.Applying.{Named, Enterable, Meetable, Applicable}
+use Rattle.types.proofs.EachEntry.{one-entered}
 use Rattle.types.proofs.Entering.{entered-run, entered-stands, entered-entries, entered-limit, stops-run}
-
--- after the first of the entries the others can be added
-enterable-next : (t : Table) (b : Bound) (bs : List Bound) → Made t → t .entries + length (b ∷ bs) ≤ limit t → Fitting (t .entries) (b ∷ bs) → Enterable (added t b) bs
-enterable-next t b bs m room (one-more w rest) =
-    record {
-      made = entered-one b m (omega (arith, room)) w;
-      fitting = subst (λ (n : ℕ). Fitting n bs) (sym (add-one (t .entries))) rest;
-      room = simp length-set (omega (arith, room));
-    }
 
 -- entries added to a made table leave a made table
 pub entered-made : (t : Table) (bs : List Bound) → Enterable t bs → Made (entered t bs)
 unfolding entered
 entered-made t [] e = e .made
-entered-made t (b ∷ bs) e = entered-made (added t b) bs (enterable-next t b bs (e .made) (e .room) (e .fitting))
+entered-made t (b ∷ bs) e = entered-made (added t b) bs (one-entered e)
 
 module _ {t : Table} {pending : List ℕ} {row : Row} (a : Applicable t pending row) where
   pub meetable : (u : Table) → u ≡ entered t (row .entries) → Meetable u pending (row .needs)

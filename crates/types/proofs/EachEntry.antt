@@ -1,7 +1,7 @@
 -- One turn of the loops that add entries one by one.
 use mathlib.Core.Path.{_≡_, refl, sym, ap, _∙_}
 use mathlib.Core.List.{List, [], _∷_}
-use Prim.Native.Nat.{ℕ, suc, _+_, _^_, _≤_, _<_}
+use Prim.Native.Nat.{ℕ, suc, _+_, _≤_, _<_}
 use native.Mathlib.Numerals.{add-one}
 use native.Mathlib.Omega.{arith}
 use lib.ListN.{length, getD, drop, length-set, drop-of-length-le}
@@ -13,7 +13,6 @@ use Rattle.classes.specs.declared.Bound.{Bound}
 use Rattle.classes.specs.declared.Bound.the-variants.{Free}
 use Rattle.classes.specs.declared.context.Added.{Added}
 use Rattle.classes.specs.declared.context.Added.the-variants.{Entry}
-use Rattle.classes.proofs.Closing.{made-good}
 use Rattle.types.specs.States.{entered}
 use Rattle.types.specs.Applying.{Fitting, Enterable}
 
@@ -54,9 +53,6 @@ module _ {p₀ r₀ s₀ k₀ l₀ q₀ : List ℕ} {e₀ links : ℕ} {bs : Lis
 
     adding-room : e < length p
     adding-room = omega (arith, inv .enterable .room, ap length left)
-
-    pub adding-small : e + 1 < 2 ^ 16
-    adding-small = omega (arith, adding-room, made-good (inv .enterable .made) .forest .small)
 
     -- the class table's answer
     module _ {b : Bound} {a : Added} {p′ r′ s′ k′ l′ q′ : List ℕ} (is : b ≡ getD bs i Free)

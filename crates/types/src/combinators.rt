@@ -279,7 +279,7 @@ fn add_halves(
 // How many rules a rule leaves to be joined: none, if its two entries are in one class already.
 fn unmet(parent: &[u16], rule: Rule) -> u16
     requires { ⌜ Rooted (now parent) (rule .one) × Rooted (now parent) (rule .other) ⌝ }
-    ensures { λ r. ⌜ (r ≡ 0 → root-in (now (parent .entry)) (rule .one) ≡ root-in (now (parent .entry)) (rule .other)) × ((r ≡ 0 → ⊥) → r ≡ 1) ⌝ }
+    ensures { λ r. ⌜ (root-in (now (parent .entry)) (rule .one) ≡ root-in (now (parent .entry)) (rule .other) → r ≡ 0) × ((root-in (now (parent .entry)) (rule .one) ≡ root-in (now (parent .entry)) (rule .other) → ⊥) → r ≡ 1) ⌝ }
 {
     if union_bound::root(parent, rule.one) == union_bound::root(parent, rule.other) {
         0

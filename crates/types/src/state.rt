@@ -326,7 +326,7 @@ pub fn offer(
         entered.rules,
         first,
     ) {
-        Met::Clash(rule, made) => {
+        Met::Clash(rule, l) => {
             undo::undo(
                 parent,
                 rank,
@@ -335,10 +335,7 @@ pub fn offer(
                 left,
                 right,
                 trail,
-                Mark {
-                    entries,
-                    links: made,
-                },
+                Mark { entries, links: l },
                 before,
             );
             Step {
