@@ -10,14 +10,18 @@ use types::Answer;
 use types::state;
 use types::state::Live;
 use types::state::Step;
-ghost use Prim.Native.Nat.{_+_, _*_, _≤_};
-ghost use lib.ListN.{length};
+ghost use Prim.Native.Nat.{ℕ, _+_, _*_, _≤_};
+ghost use mathlib.Core.Path.{_≡_};
+ghost use mathlib.Core.List.{List};
+ghost use lib.ListN.{length, getD};
 ghost use Rattle.classes.specs.Table.{table};
 ghost use Rattle.nodes.specs.Records.{record-at};
 ghost use Rattle.types.specs.States.{state, Opened};
+ghost use Rattle.formats.specs.Shown.{settled};
 ghost use Rattle.jobs.specs.Putting.{Room, Put, Recorded, Puts};
 
-// Puts the record at `from` to the state. A closing's listing goes into `listed`.
+// Puts the record at `from` to the state. What is listed is after a record of kind 65 its listing, or 0, 0, 4, 4 where it has none;
+// no other record touches it.
 fn put(
     parent: &mut [u16],
     rank: &mut [u16],
@@ -36,8 +40,9 @@ fn put(
     requires { ⌜ Opened 1024 (state (table (now parent) (now rank) (now shape) (now kind) (now left) (now right) (now trail) (live .entries) (live .links)) (now nodes) (live .kept)) ⌝ }
     requires { ⌜ (from + 8 ≤ length (now bytes)) × Room (state (table (now parent) (now rank) (now shape) (now kind) (now left) (now right) (now trail) (live .entries) (live .links)) (now nodes) (live .kept)) (now work) (now listed) ⌝ }
     ensures { λ r. ⌜ ((o : Opened 1024 (state (table (now (parent .entry)) (now (rank .entry)) (now (shape .entry)) (now (kind .entry)) (now (left .entry)) (now (right .entry)) (now (trail .entry)) (live .entries) (live .links)) (now (nodes .entry)) (live .kept))) →
-        Put (state (table (now (parent .entry)) (now (rank .entry)) (now (shape .entry)) (now (kind .entry)) (now (left .entry)) (now (right .entry)) (now (trail .entry)) (live .entries) (live .links)) (now (nodes .entry)) (live .kept)) o (record-at (now (bytes .entry)) from) (now (listed .entry)) (r .answer)
-        (state (table (now (parent .exit)) (now (rank .exit)) (now (shape .exit)) (now (kind .exit)) (now (left .exit)) (now (right .exit)) (now (trail .exit)) (r .live .entries) (r .live .links)) (now (nodes .exit)) (r .live .kept)) (now (listed .exit))) ⌝ }
+        (between : List ℕ) × Put (state (table (now (parent .entry)) (now (rank .entry)) (now (shape .entry)) (now (kind .entry)) (now (left .entry)) (now (right .entry)) (now (trail .entry)) (live .entries) (live .links)) (now (nodes .entry)) (live .kept)) o (record-at (now (bytes .entry)) from) (now (listed .entry)) (r .answer)
+        (state (table (now (parent .exit)) (now (rank .exit)) (now (shape .exit)) (now (kind .exit)) (now (left .exit)) (now (right .exit)) (now (trail .exit)) (r .live .entries) (r .live .links)) (now (nodes .exit)) (r .live .kept)) between
+        × (now (listed .exit) ≡ settled (getD (now (bytes .entry)) from 0) (r .answer) between)) ⌝ }
 {
     match records::asked(bytes, from) {
         Asks::Offer => state::offer(
@@ -67,17 +72,18 @@ fn put(
         ),
         Asks::Close => {
             let answer = state::close(parent, shape, kind, left, right, nodes, work, listed, live);
+            listing::settle(listed, bytes[from], answer);
             Step { answer, live }
         }
-        Asks::Malformed => Step {
-            answer: Answer::Malformed,
-            live,
-        },
+        Asks::Malformed => {
+            let answer = Answer::Malformed;
+            listing::settle(listed, bytes[from], answer);
+            Step { answer, live }
+        }
     }
 }
 
-// Puts the record at `from`, writes its answer at `to`, and gives the counts then. What is listed is after a record of kind 65 its
-// listing, or 0, 0, 4, 4 where it has none.
+// Puts the record at `from`, writes its answer at `to`, and gives the counts then.
 fn put_bytes(
     parent: &mut [u16],
     rank: &mut [u16],
@@ -120,7 +126,6 @@ fn put_bytes(
     );
     let answer = step.answer;
     answers::write(answers, to, answer);
-    listing::settle(listed, bytes[from], answer);
     step.live
 }
 

@@ -247,127 +247,127 @@ from-to-requires-16 : tie.Need-from-to-requires-16
 from-to-requires-16 c κs = search needs
 
 same-length : tie.Need-same-length
-same-length c = search needs
+same-length c = c .before .before .before .before .before .before .before .before .before .before .before .before .add-one .kept .0
 
 same-length-2 : tie.Need-same-length-2
-same-length-2 c = search needs
+same-length-2 c = c .before .before .before .before .before .before .before .before .before .before .before .before .add-one .kept .1 .0
 
 same-length-3 : tie.Need-same-length-3
-same-length-3 c = search needs
+same-length-3 c = c .before .before .before .before .before .before .before .before .before .before .before .before .add-one .kept .1 .1 .0
 
 same-length-4 : tie.Need-same-length-4
-same-length-4 c = search needs
+same-length-4 c = c .before .before .before .before .before .before .before .before .before .before .before .before .add-one .kept .1 .1 .1 .0
 
 same-length-5 : tie.Need-same-length-5
-same-length-5 c = search needs
+same-length-5 c = c .before .before .before .before .before .before .before .before .before .before .before .before .add-one .kept .1 .1 .1 .1 .0
 
 same-length-6 : tie.Need-same-length-6
-same-length-6 c = search needs
+same-length-6 c = c .before .before .before .before .before .before .before .before .before .before .before .before .add-one .kept .1 .1 .1 .1 .1 .0
 
 returns : tie.Need-returns
 returns c = λ trail. rw (c .before .before .before .before .before .before .before .before .before .before .before .before .before .before .before .before .before .before .before .before .enum-told .given .1) (record { is = c .before .before .before .before .before .before .before .before .before .before .before .before .add-one .ensures trail; gives = c .before .before .before .before .before .before .before .before .before .before .before .before .before .before .before .before .before .before .before .from-to .ensures; left = done })
 
 same-length-7 : tie.Need-same-length-7
-same-length-7 c = search needs
+same-length-7 c = c .before .before .before .before .before .before .before .before .before .before .before .before .add-one2 .kept .0
 
 same-length-8 : tie.Need-same-length-8
-same-length-8 c = search needs
+same-length-8 c = c .before .before .before .before .before .before .before .before .before .before .before .before .add-one2 .kept .1 .0
 
 same-length-9 : tie.Need-same-length-9
-same-length-9 c = search needs
+same-length-9 c = c .before .before .before .before .before .before .before .before .before .before .before .before .add-one2 .kept .1 .1 .0
 
 same-length-10 : tie.Need-same-length-10
-same-length-10 c = search needs
+same-length-10 c = c .before .before .before .before .before .before .before .before .before .before .before .before .add-one2 .kept .1 .1 .1 .0
 
 same-length-11 : tie.Need-same-length-11
-same-length-11 c = search needs
+same-length-11 c = c .before .before .before .before .before .before .before .before .before .before .before .before .add-one2 .kept .1 .1 .1 .1 .0
 
 same-length-12 : tie.Need-same-length-12
-same-length-12 c = search needs
+same-length-12 c = c .before .before .before .before .before .before .before .before .before .before .before .before .add-one2 .kept .1 .1 .1 .1 .1 .0
 
 returns-2 : tie.Need-returns-2
 returns-2 c = λ trail. rw (c .before .before .before .before .before .before .before .before .before .before .before .before .before .before .before .before .before .before .before .before .enum-told2 .given .1) (record { is = c .before .before .before .before .before .before .before .before .before .before .before .before .add-one2 .ensures trail; gives = c .before .before .before .before .before .before .before .before .before .before .before .before .before .before .before .before .before .before .before .from-to2 .ensures; left = done })
 
 same-length-13 : tie.Need-same-length-13
-same-length-13 c = search needs
+same-length-13 c = c .before .before .before .before .before .before .before .before .before .before .before .before .add-two .kept .0
 
 same-length-14 : tie.Need-same-length-14
-same-length-14 c = search needs
+same-length-14 c = c .before .before .before .before .before .before .before .before .before .before .before .before .add-two .kept .1 .0
 
 same-length-15 : tie.Need-same-length-15
-same-length-15 c = search needs
+same-length-15 c = c .before .before .before .before .before .before .before .before .before .before .before .before .add-two .kept .1 .1 .0
 
 same-length-16 : tie.Need-same-length-16
-same-length-16 c = search needs
+same-length-16 c = c .before .before .before .before .before .before .before .before .before .before .before .before .add-two .kept .1 .1 .1 .0
 
 same-length-17 : tie.Need-same-length-17
-same-length-17 c = search needs
+same-length-17 c = c .before .before .before .before .before .before .before .before .before .before .before .before .add-two .kept .1 .1 .1 .1 .0
 
 same-length-18 : tie.Need-same-length-18
-same-length-18 c = search needs
+same-length-18 c = c .before .before .before .before .before .before .before .before .before .before .before .before .add-two .kept .1 .1 .1 .1 .1 .0
 
 returns-3 : tie.Need-returns-3
 returns-3 c = λ trail. rw (c .before .before .before .before .before .before .before .before .before .before .before .before .before .before .before .before .before .before .before .before .enum-told3 .given .1) (record { is = c .before .before .before .before .before .before .before .before .before .before .before .before .add-two .ensures trail; gives = c .before .before .before .before .before .before .before .before .before .before .before .before .before .before .before .before .before .before .before .from-to3 .ensures; left = done })
 
 same-length-19 : tie.Need-same-length-19
-same-length-19 c = search needs
+same-length-19 c = c .before .before .before .before .before .before .before .before .before .before .before .before .add-two2 .kept .0
 
 same-length-20 : tie.Need-same-length-20
-same-length-20 c = search needs
+same-length-20 c = c .before .before .before .before .before .before .before .before .before .before .before .before .add-two2 .kept .1 .0
 
 same-length-21 : tie.Need-same-length-21
-same-length-21 c = search needs
+same-length-21 c = c .before .before .before .before .before .before .before .before .before .before .before .before .add-two2 .kept .1 .1 .0
 
 same-length-22 : tie.Need-same-length-22
-same-length-22 c = search needs
+same-length-22 c = c .before .before .before .before .before .before .before .before .before .before .before .before .add-two2 .kept .1 .1 .1 .0
 
 same-length-23 : tie.Need-same-length-23
-same-length-23 c = search needs
+same-length-23 c = c .before .before .before .before .before .before .before .before .before .before .before .before .add-two2 .kept .1 .1 .1 .1 .0
 
 same-length-24 : tie.Need-same-length-24
-same-length-24 c = search needs
+same-length-24 c = c .before .before .before .before .before .before .before .before .before .before .before .before .add-two2 .kept .1 .1 .1 .1 .1 .0
 
 returns-4 : tie.Need-returns-4
 returns-4 c = λ trail. rw (c .before .before .before .before .before .before .before .before .before .before .before .before .before .before .before .before .before .before .before .before .enum-told4 .given .1) (record { is = c .before .before .before .before .before .before .before .before .before .before .before .before .add-two2 .ensures trail; gives = c .before .before .before .before .before .before .before .before .before .before .before .before .before .before .before .before .before .before .before .from-to4 .ensures; left = done })
 
 same-length-25 : tie.Need-same-length-25
-same-length-25 c = search needs
+same-length-25 c = c .before .before .before .before .before .before .before .before .before .before .before .before .add-two3 .kept .0
 
 same-length-26 : tie.Need-same-length-26
-same-length-26 c = search needs
+same-length-26 c = c .before .before .before .before .before .before .before .before .before .before .before .before .add-two3 .kept .1 .0
 
 same-length-27 : tie.Need-same-length-27
-same-length-27 c = search needs
+same-length-27 c = c .before .before .before .before .before .before .before .before .before .before .before .before .add-two3 .kept .1 .1 .0
 
 same-length-28 : tie.Need-same-length-28
-same-length-28 c = search needs
+same-length-28 c = c .before .before .before .before .before .before .before .before .before .before .before .before .add-two3 .kept .1 .1 .1 .0
 
 same-length-29 : tie.Need-same-length-29
-same-length-29 c = search needs
+same-length-29 c = c .before .before .before .before .before .before .before .before .before .before .before .before .add-two3 .kept .1 .1 .1 .1 .0
 
 same-length-30 : tie.Need-same-length-30
-same-length-30 c = search needs
+same-length-30 c = c .before .before .before .before .before .before .before .before .before .before .before .before .add-two3 .kept .1 .1 .1 .1 .1 .0
 
 returns-5 : tie.Need-returns-5
 returns-5 c = λ trail. rw (c .before .before .before .before .before .before .before .before .before .before .before .before .before .before .before .before .before .before .before .before .enum-told5 .given .1) (record { is = c .before .before .before .before .before .before .before .before .before .before .before .before .add-two3 .ensures trail; gives = c .before .before .before .before .before .before .before .before .before .before .before .before .before .before .before .before .before .before .before .from-to5 .ensures; left = done })
 
 same-length-31 : tie.Need-same-length-31
-same-length-31 c = search needs
+same-length-31 c = c .before .before .before .before .before .before .before .before .before .before .before .before .add-two4 .kept .0
 
 same-length-32 : tie.Need-same-length-32
-same-length-32 c = search needs
+same-length-32 c = c .before .before .before .before .before .before .before .before .before .before .before .before .add-two4 .kept .1 .0
 
 same-length-33 : tie.Need-same-length-33
-same-length-33 c = search needs
+same-length-33 c = c .before .before .before .before .before .before .before .before .before .before .before .before .add-two4 .kept .1 .1 .0
 
 same-length-34 : tie.Need-same-length-34
-same-length-34 c = search needs
+same-length-34 c = c .before .before .before .before .before .before .before .before .before .before .before .before .add-two4 .kept .1 .1 .1 .0
 
 same-length-35 : tie.Need-same-length-35
-same-length-35 c = search needs
+same-length-35 c = c .before .before .before .before .before .before .before .before .before .before .before .before .add-two4 .kept .1 .1 .1 .1 .0
 
 same-length-36 : tie.Need-same-length-36
-same-length-36 c = search needs
+same-length-36 c = c .before .before .before .before .before .before .before .before .before .before .before .before .add-two4 .kept .1 .1 .1 .1 .1 .0
 
 returns-6 : tie.Need-returns-6
 returns-6 c = λ trail. rw (c .before .before .before .before .before .before .before .before .before .before .before .before .before .before .before .before .before .before .before .before .enum-told6 .given .1) (record { is = c .before .before .before .before .before .before .before .before .before .before .before .before .add-two4 .ensures trail; gives = c .before .before .before .before .before .before .before .before .before .before .before .before .before .before .before .before .before .before .before .from-to6 .ensures; left = done })
@@ -380,169 +380,169 @@ unfolding entered
 returns-7 c = λ trail. rw (c .before .before .before .enum-told7 .given .1) (record { is = refl; gives = c .before .before .from-to7 .ensures; left = one-left _ _ _ _ _ (c .unmet .ensures) })
 
 same-length-38 : tie.Need-same-length-38
-same-length-38 c = search needs
+same-length-38 c = c .before .before .before .before .before .before .before .before .before .before .before .before .add-halves .kept .0
 
 same-length-39 : tie.Need-same-length-39
-same-length-39 c = search needs
+same-length-39 c = c .before .before .before .before .before .before .before .before .before .before .before .before .add-halves .kept .1 .0
 
 same-length-40 : tie.Need-same-length-40
-same-length-40 c = search needs
+same-length-40 c = c .before .before .before .before .before .before .before .before .before .before .before .before .add-halves .kept .1 .1 .0
 
 same-length-41 : tie.Need-same-length-41
-same-length-41 c = search needs
+same-length-41 c = c .before .before .before .before .before .before .before .before .before .before .before .before .add-halves .kept .1 .1 .1 .0
 
 same-length-42 : tie.Need-same-length-42
-same-length-42 c = search needs
+same-length-42 c = c .before .before .before .before .before .before .before .before .before .before .before .before .add-halves .kept .1 .1 .1 .1 .0
 
 same-length-43 : tie.Need-same-length-43
-same-length-43 c = search needs
+same-length-43 c = c .before .before .before .before .before .before .before .before .before .before .before .before .add-halves .kept .1 .1 .1 .1 .1 .0
 
 returns-8 : tie.Need-returns-8
 returns-8 c = λ trail. rw (c .before .before .before .before .before .before .before .before .before .before .before .before .before .before .before .before .before .before .before .before .enum-told8 .given .1) (record { is = c .before .before .before .before .before .before .before .before .before .before .before .before .add-halves .ensures trail; gives = c .before .before .before .before .before .before .before .before .before .before .before .before .before .before .before .before .before .before .before .from-to8 .ensures; left = (refl, refl) })
 
 same-length-44 : tie.Need-same-length-44
-same-length-44 c = search needs
+same-length-44 c = c .before .before .before .before .before .before .before .before .before .before .before .before .add-case .kept .0
 
 same-length-45 : tie.Need-same-length-45
-same-length-45 c = search needs
+same-length-45 c = c .before .before .before .before .before .before .before .before .before .before .before .before .add-case .kept .1 .0
 
 same-length-46 : tie.Need-same-length-46
-same-length-46 c = search needs
+same-length-46 c = c .before .before .before .before .before .before .before .before .before .before .before .before .add-case .kept .1 .1 .0
 
 same-length-47 : tie.Need-same-length-47
-same-length-47 c = search needs
+same-length-47 c = c .before .before .before .before .before .before .before .before .before .before .before .before .add-case .kept .1 .1 .1 .0
 
 same-length-48 : tie.Need-same-length-48
-same-length-48 c = search needs
+same-length-48 c = c .before .before .before .before .before .before .before .before .before .before .before .before .add-case .kept .1 .1 .1 .1 .0
 
 same-length-49 : tie.Need-same-length-49
-same-length-49 c = search needs
+same-length-49 c = c .before .before .before .before .before .before .before .before .before .before .before .before .add-case .kept .1 .1 .1 .1 .1 .0
 
 returns-9 : tie.Need-returns-9
 returns-9 c = λ trail. rw (c .before .before .before .before .before .before .before .before .before .before .before .before .before .before .before .before .before .before .before .before .enum-told9 .given .1) (record { is = c .before .before .before .before .before .before .before .before .before .before .before .before .add-case .ensures trail; gives = c .before .before .before .before .before .before .before .before .before .before .before .before .before .before .before .before .before .before .before .from-to9 .ensures; left = (refl, refl) })
 
 same-length-50 : tie.Need-same-length-50
-same-length-50 c = search needs
+same-length-50 c = c .before .before .before .before .before .before .before .before .before .before .before .before .add-case2 .kept .0
 
 same-length-51 : tie.Need-same-length-51
-same-length-51 c = search needs
+same-length-51 c = c .before .before .before .before .before .before .before .before .before .before .before .before .add-case2 .kept .1 .0
 
 same-length-52 : tie.Need-same-length-52
-same-length-52 c = search needs
+same-length-52 c = c .before .before .before .before .before .before .before .before .before .before .before .before .add-case2 .kept .1 .1 .0
 
 same-length-53 : tie.Need-same-length-53
-same-length-53 c = search needs
+same-length-53 c = c .before .before .before .before .before .before .before .before .before .before .before .before .add-case2 .kept .1 .1 .1 .0
 
 same-length-54 : tie.Need-same-length-54
-same-length-54 c = search needs
+same-length-54 c = c .before .before .before .before .before .before .before .before .before .before .before .before .add-case2 .kept .1 .1 .1 .1 .0
 
 same-length-55 : tie.Need-same-length-55
-same-length-55 c = search needs
+same-length-55 c = c .before .before .before .before .before .before .before .before .before .before .before .before .add-case2 .kept .1 .1 .1 .1 .1 .0
 
 returns-10 : tie.Need-returns-10
 returns-10 c = λ trail. rw (c .before .before .before .before .before .before .before .before .before .before .before .before .before .before .before .before .before .before .before .before .enum-told10 .given .1) (record { is = c .before .before .before .before .before .before .before .before .before .before .before .before .add-case2 .ensures trail; gives = c .before .before .before .before .before .before .before .before .before .before .before .before .before .before .before .before .before .before .before .from-to10 .ensures; left = (refl, refl) })
 
 same-length-56 : tie.Need-same-length-56
-same-length-56 c = search needs
+same-length-56 c = c .before .before .before .before .before .before .before .before .before .before .before .before .before .before .add-one3 .kept .0
 
 same-length-57 : tie.Need-same-length-57
-same-length-57 c = search needs
+same-length-57 c = c .before .before .before .before .before .before .before .before .before .before .before .before .before .before .add-one3 .kept .1 .0
 
 same-length-58 : tie.Need-same-length-58
-same-length-58 c = search needs
+same-length-58 c = c .before .before .before .before .before .before .before .before .before .before .before .before .before .before .add-one3 .kept .1 .1 .0
 
 same-length-59 : tie.Need-same-length-59
-same-length-59 c = search needs
+same-length-59 c = c .before .before .before .before .before .before .before .before .before .before .before .before .before .before .add-one3 .kept .1 .1 .1 .0
 
 same-length-60 : tie.Need-same-length-60
-same-length-60 c = search needs
+same-length-60 c = c .before .before .before .before .before .before .before .before .before .before .before .before .before .before .add-one3 .kept .1 .1 .1 .1 .0
 
 same-length-61 : tie.Need-same-length-61
-same-length-61 c = search needs
+same-length-61 c = c .before .before .before .before .before .before .before .before .before .before .before .before .before .before .add-one3 .kept .1 .1 .1 .1 .1 .0
 
 returns-11 : tie.Need-returns-11
 returns-11 c = λ trail. rw (c .before .before .before .before .before .before .before .before .before .before .before .before .before .before .before .before .before .before .before .before .before .before .enum-told11 .given .1) (record { is = c .before .before .before .before .before .before .before .before .before .before .before .before .before .before .add-one3 .ensures trail; gives = c .before .before .before .before .before .before .before .before .before .before .before .before .before .before .before .before .before .before .before .before .before .from-to11 .ensures; left = one-left _ _ _ _ _ (c .unmet2 .ensures) })
 
 same-length-62 : tie.Need-same-length-62
-same-length-62 c = search needs
+same-length-62 c = c .before .before .before .before .before .before .before .before .before .before .before .before .add-five .kept .0
 
 same-length-63 : tie.Need-same-length-63
-same-length-63 c = search needs
+same-length-63 c = c .before .before .before .before .before .before .before .before .before .before .before .before .add-five .kept .1 .0
 
 same-length-64 : tie.Need-same-length-64
-same-length-64 c = search needs
+same-length-64 c = c .before .before .before .before .before .before .before .before .before .before .before .before .add-five .kept .1 .1 .0
 
 same-length-65 : tie.Need-same-length-65
-same-length-65 c = search needs
+same-length-65 c = c .before .before .before .before .before .before .before .before .before .before .before .before .add-five .kept .1 .1 .1 .0
 
 same-length-66 : tie.Need-same-length-66
-same-length-66 c = search needs
+same-length-66 c = c .before .before .before .before .before .before .before .before .before .before .before .before .add-five .kept .1 .1 .1 .1 .0
 
 same-length-67 : tie.Need-same-length-67
-same-length-67 c = search needs
+same-length-67 c = c .before .before .before .before .before .before .before .before .before .before .before .before .add-five .kept .1 .1 .1 .1 .1 .0
 
 returns-12 : tie.Need-returns-12
 returns-12 c = λ trail. rw (c .before .before .before .before .before .before .before .before .before .before .before .before .before .before .before .before .before .before .before .before .enum-told12 .given .1) (record { is = c .before .before .before .before .before .before .before .before .before .before .before .before .add-five .ensures trail; gives = c .before .before .before .before .before .before .before .before .before .before .before .before .before .before .before .before .before .before .before .from-to12 .ensures; left = (refl, refl) })
 
 same-length-68 : tie.Need-same-length-68
-same-length-68 c = search needs
+same-length-68 c = c .before .before .before .before .before .before .before .before .before .before .before .before .add-seven .kept .0
 
 same-length-69 : tie.Need-same-length-69
-same-length-69 c = search needs
+same-length-69 c = c .before .before .before .before .before .before .before .before .before .before .before .before .add-seven .kept .1 .0
 
 same-length-70 : tie.Need-same-length-70
-same-length-70 c = search needs
+same-length-70 c = c .before .before .before .before .before .before .before .before .before .before .before .before .add-seven .kept .1 .1 .0
 
 same-length-71 : tie.Need-same-length-71
-same-length-71 c = search needs
+same-length-71 c = c .before .before .before .before .before .before .before .before .before .before .before .before .add-seven .kept .1 .1 .1 .0
 
 same-length-72 : tie.Need-same-length-72
-same-length-72 c = search needs
+same-length-72 c = c .before .before .before .before .before .before .before .before .before .before .before .before .add-seven .kept .1 .1 .1 .1 .0
 
 same-length-73 : tie.Need-same-length-73
-same-length-73 c = search needs
+same-length-73 c = c .before .before .before .before .before .before .before .before .before .before .before .before .add-seven .kept .1 .1 .1 .1 .1 .0
 
 returns-13 : tie.Need-returns-13
 returns-13 c = λ trail. rw (c .before .before .before .before .before .before .before .before .before .before .before .before .before .before .before .before .before .before .before .before .enum-told13 .given .1) (record { is = c .before .before .before .before .before .before .before .before .before .before .before .before .add-seven .ensures trail; gives = c .before .before .before .before .before .before .before .before .before .before .before .before .before .before .before .before .before .before .before .from-to13 .ensures; left = (refl, refl) })
 
 same-length-74 : tie.Need-same-length-74
-same-length-74 c = search needs
+same-length-74 c = c .before .before .before .before .before .before .before .before .before .before .before .before .add-two5 .kept .0
 
 same-length-75 : tie.Need-same-length-75
-same-length-75 c = search needs
+same-length-75 c = c .before .before .before .before .before .before .before .before .before .before .before .before .add-two5 .kept .1 .0
 
 same-length-76 : tie.Need-same-length-76
-same-length-76 c = search needs
+same-length-76 c = c .before .before .before .before .before .before .before .before .before .before .before .before .add-two5 .kept .1 .1 .0
 
 same-length-77 : tie.Need-same-length-77
-same-length-77 c = search needs
+same-length-77 c = c .before .before .before .before .before .before .before .before .before .before .before .before .add-two5 .kept .1 .1 .1 .0
 
 same-length-78 : tie.Need-same-length-78
-same-length-78 c = search needs
+same-length-78 c = c .before .before .before .before .before .before .before .before .before .before .before .before .add-two5 .kept .1 .1 .1 .1 .0
 
 same-length-79 : tie.Need-same-length-79
-same-length-79 c = search needs
+same-length-79 c = c .before .before .before .before .before .before .before .before .before .before .before .before .add-two5 .kept .1 .1 .1 .1 .1 .0
 
 returns-14 : tie.Need-returns-14
 returns-14 c = λ trail. rw (c .before .before .before .before .before .before .before .before .before .before .before .before .before .before .before .before .before .before .before .before .enum-told14 .given .1) (record { is = c .before .before .before .before .before .before .before .before .before .before .before .before .add-two5 .ensures trail; gives = c .before .before .before .before .before .before .before .before .before .before .before .before .before .before .before .before .before .before .before .from-to14 .ensures; left = done })
 
 same-length-80 : tie.Need-same-length-80
-same-length-80 c = search needs
+same-length-80 c = c .before .before .before .before .before .before .before .before .before .before .before .before .add-two6 .kept .0
 
 same-length-81 : tie.Need-same-length-81
-same-length-81 c = search needs
+same-length-81 c = c .before .before .before .before .before .before .before .before .before .before .before .before .add-two6 .kept .1 .0
 
 same-length-82 : tie.Need-same-length-82
-same-length-82 c = search needs
+same-length-82 c = c .before .before .before .before .before .before .before .before .before .before .before .before .add-two6 .kept .1 .1 .0
 
 same-length-83 : tie.Need-same-length-83
-same-length-83 c = search needs
+same-length-83 c = c .before .before .before .before .before .before .before .before .before .before .before .before .add-two6 .kept .1 .1 .1 .0
 
 same-length-84 : tie.Need-same-length-84
-same-length-84 c = search needs
+same-length-84 c = c .before .before .before .before .before .before .before .before .before .before .before .before .add-two6 .kept .1 .1 .1 .1 .0
 
 same-length-85 : tie.Need-same-length-85
-same-length-85 c = search needs
+same-length-85 c = c .before .before .before .before .before .before .before .before .before .before .before .before .add-two6 .kept .1 .1 .1 .1 .1 .0
 
 returns-15 : tie.Need-returns-15
 returns-15 c = λ trail. rw (c .before .before .before .before .before .before .before .before .before .before .before .before .before .before .before .before .before .before .before .before .enum-told15 .given .1) (record { is = c .before .before .before .before .before .before .before .before .before .before .before .before .add-two6 .ensures trail; gives = c .before .before .before .before .before .before .before .before .before .before .before .before .before .before .before .before .before .before .before .from-to15 .ensures; left = done })
