@@ -10,7 +10,7 @@ use Rattle.nodes.specs.Layout.{standing}
 use Rattle.nodes.specs.declared.Node.{Node}
 use Rattle.types.specs.Answers.{Numbers, numbers}
 use Rattle.types.specs.Runs.{Runs}
-use Rattle.types.specs.States.{entered}
+use Rattle.combinators.specs.Entered.{entered}
 use Rattle.types.specs.declared.Answer.{Answer}
 use Rattle.types.proofs.Once.{runs-once}
 use Rattle.typing.specs.Listing.{listing}

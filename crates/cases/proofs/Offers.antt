@@ -11,7 +11,8 @@ use Rattle.nodes.specs.declared.Node.{Node}
 use Rattle.nodes.specs.declared.Record.the-variants.{Offer}
 use Rattle.types.specs.Answers.{Below, Answered}
 use Rattle.types.specs.Answers.Answered.{over-31, full, no-child, keeps, refuses}
-use Rattle.types.specs.States.{entered, Standing, row-numbers}
+use Rattle.combinators.specs.Entered.{entered}
+use Rattle.types.specs.States.{Standing, row-numbers}
 use Rattle.types.specs.declared.Answer.{Answer}
 use Rattle.types.specs.declared.Answer.the-variants.{Kept, Malformed, Full, NoChild, Clashes}
 use Rattle.types.proofs.Stood.{Stood, stood, offer-fits, offer-clashes}

@@ -6,7 +6,8 @@ use Rattle.classes.specs.Table.{Table}
 use Rattle.classes.specs.Merging.{Merges, Verdict}
 use Rattle.classes.specs.Merging.Verdict.{fits, clash}
 use Rattle.nodes.specs.Layout.{Numbered}
-use Rattle.types.specs.States.{Meets, Stops}
+use Rattle.combinators.specs.Entered.{Meets}
+use Rattle.types.specs.States.{Stops}
 use Rattle.cases.proofs.Whatever.{Whatever, and-then, whatever-then}
 use Rattle.cases.proofs.Joining.{merge, merge-merges}
 

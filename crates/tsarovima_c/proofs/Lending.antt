@@ -9,7 +9,8 @@ use lib.Seq.{drop-length}
 use Rattle.classes.specs.Table.{table, fresh}
 use Rattle.nodes.specs.Layout.{standing}
 use Rattle.closing.proofs.Beginning.{Clearing}
-use Rattle.types.specs.States.{State, state, entered, Opened}
+use Rattle.combinators.specs.Entered.{entered}
+use Rattle.types.specs.States.{State, state, Opened}
 use Rattle.types.proofs.Begun.{opened-first}
 use Rattle.jobs.specs.Putting.{Recorded, Puts}
 use Rattle.tsarovima_c.specs.Lent.{tables, state-of, Sized, OpenedBy, Long, RecordedBy}

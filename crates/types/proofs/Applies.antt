@@ -1,25 +1,19 @@
 -- What applying a row leans on: after its entries the rules can be joined, and after a clash the mark before it is one of the run.
 use mathlib.Core.Path.{_≡_, refl, sym, subst}
-use mathlib.Core.List.{List, [], _∷_}
+use mathlib.Core.List.{List}
 use Prim.Native.Nat.{ℕ}
 use native.Mathlib.Omega.{arith}
-use Rattle.classes.specs.Table.{Table, limit, mark, added}
-use Rattle.classes.specs.Made.{Made}
+use Rattle.classes.specs.Table.{Table, limit, mark}
 use Rattle.classes.specs.Promises.{Run, Marked}
 use Rattle.classes.specs.Promises.Run.{here}
-use Rattle.classes.specs.declared.Bound.{Bound}
 use Rattle.classes.proofs.Judging.{made-stands}
 use Rattle.nodes.specs.Layout.{Row}
-use Rattle.types.specs.States.{entered, Stops}
-use Rattle.types.specs.Applying.{Named, Enterable, Meetable, Applicable}
-use Rattle.types.proofs.EachEntry.{one-entered}
-use Rattle.types.proofs.Entering.{entered-run, entered-stands, entered-entries, entered-limit, stops-run}
-
--- entries added to a made table leave a made table
-pub entered-made : (t : Table) (bs : List Bound) → Enterable t bs → Made (entered t bs)
-unfolding entered
-entered-made t [] e = e .made
-entered-made t (b ∷ bs) e = entered-made (added t b) bs (one-entered e)
+use Rattle.combinators.specs.Entered.{entered}
+use Rattle.types.specs.States.{Stops}
+use Rattle.combinators.specs.Entering.{Named}
+use Rattle.types.specs.Applying.{Meetable, Applicable}
+use Rattle.combinators.proofs.Counted.{entered-made, entered-entries, entered-limit}
+use Rattle.types.proofs.Entering.{entered-run, entered-stands, stops-run}
 
 module _ {t : Table} {pending : List ℕ} {row : Row} (a : Applicable t pending row) where
   pub meetable : (u : Table) → u ≡ entered t (row .entries) → Meetable u pending (row .needs)

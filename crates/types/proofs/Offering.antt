@@ -13,9 +13,11 @@ use Rattle.classes.proofs.Rows.{replicate-blank}
 use Rattle.nodes.specs.Layout.{Row, Proper, says, arrow, adds, arrow-of, children, row-of, grown}
 use Rattle.types.specs.Answers.{Below, Answered}
 use Rattle.types.specs.Answers.Answered.{over-31, full, no-child, keeps, refuses}
-use Rattle.types.specs.States.{State, state, entered, Meets, Stops, Standing, Opened, row-numbers}
+use Rattle.combinators.specs.Entered.{entered, Meets}
+use Rattle.types.specs.States.{State, state, Stops, Standing, Opened, row-numbers}
 use Rattle.types.specs.States.Standing.{kept}
-use Rattle.types.specs.Applying.{row-written, Fitting, Named, Applicable}
+use Rattle.combinators.specs.Entering.{Fitting, Named}
+use Rattle.types.specs.Applying.{row-written, Applicable}
 use Rattle.types.specs.Calls.{Called}
 use Rattle.nodes.specs.declared.Node.{Node}
 use Rattle.nodes.specs.declared.Record.the-variants.{Offer}

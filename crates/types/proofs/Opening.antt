@@ -7,10 +7,10 @@ use lib.ListN.{length, replicate, length-replicate}
 use Rattle.classes.specs.Table.{table, fresh}
 use Rattle.classes.specs.Made.{Made}
 use Rattle.nodes.specs.Layout.{standing}
-use Rattle.types.specs.States.{entered}
-use Rattle.types.specs.Applying.{Enterable}
+use Rattle.combinators.specs.Entered.{entered}
+use Rattle.combinators.specs.Entering.{Enterable}
 use Rattle.types.proofs.Stood.{standing-fitting, standing-length}
-use Rattle.types.proofs.EachEntry.{Adding, adding-begins, adding-ends}
+use Rattle.combinators.proofs.EachEntry.{Adding, adding-begins, adding-ends}
 
 fresh-enterable : (rows : ℕ) → 33 ≤ rows → rows < 2 ^ 16 → Enterable (fresh rows) standing
 fresh-enterable rows h small = record { made = Made.begun rows small; fitting = standing-fitting; room = rw length-replicate (omega (arith, standing-length)) }

@@ -5,7 +5,6 @@
 // it). The live counts go in and out by value. How many nodes there is room for is the number of rows of `nodes`.
 
 use super::Answer;
-use super::combinators;
 use classes::Bound;
 use classes::Mark;
 use classes::context;
@@ -36,8 +35,10 @@ ghost use Rattle.nodes.specs.Layout.{arrow as from-to};
 ghost use Rattle.nodes.specs.Coded.{node-of, kind-number, Regular};
 ghost use Rattle.nodes.specs.Meant.{Countable, meant, meant-rule};
 ghost use Rattle.types.specs.Answers.{Below};
-ghost use Rattle.types.specs.States.{state, entered, row-numbers, Opened};
-ghost use Rattle.types.specs.Applying.{row-written, rows-cleared, Left, Meetable, Meeting, met-links};
+ghost use Rattle.combinators.specs.Entered.{entered};
+ghost use Rattle.types.specs.States.{state, row-numbers, Opened};
+ghost use Rattle.combinators.specs.Entering.{Left};
+ghost use Rattle.types.specs.Applying.{row-written, rows-cleared, Meetable, Meeting, met-links};
 ghost use Rattle.types.specs.Calls.{Called};
 ghost use Rattle.types.specs.Calls.{Closing as Closes};
 ghost use Rattle.nodes.specs.declared.Record.the-variants.{Offer, TakeBack};

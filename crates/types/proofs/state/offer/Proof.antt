@@ -8,8 +8,10 @@ use Rattle.nodes.specs.Layout.{Row, arrow, row-of}
 use Rattle.nodes.specs.Coded.{node-of}
 use Rattle.nodes.specs.Meant.{meant}
 use Rattle.types.specs.Answers.{Below}
-use Rattle.types.specs.States.{State, state, entered, row-numbers, Opened}
-use Rattle.types.specs.Applying.{row-written, Applicable, Entering, Meeting, met-links}
+use Rattle.combinators.specs.Entered.{entered}
+use Rattle.types.specs.States.{State, state, row-numbers, Opened}
+use Rattle.combinators.specs.Entering.{Entering}
+use Rattle.types.specs.Applying.{row-written, Applicable, Meeting, met-links}
 use Rattle.nodes.specs.declared.arrow.Adds.{Adds}
 use Rattle.nodes.specs.declared.arrow.Arrow.{Arrow}
 use Rattle.types.specs.declared.state.Met.{Met}

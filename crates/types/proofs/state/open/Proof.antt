@@ -7,7 +7,7 @@ use Rattle.classes.specs.declared.context.Added.the-variants.{Entry}
 use Rattle.nodes.specs.Layout.{standing}
 use Rattle.types.proofs.Stood.{standing-length}
 use Rattle.types.proofs.Opening.{opening-begins, opening-ends}
-use Rattle.types.proofs.EachEntry.{Adding, adding-answer, adding-again}
+use Rattle.combinators.proofs.EachEntry.{Adding, adding-answer, adding-again}
 use borrow.Author.Needs.{needs}
 use Rattle.types.proofs.state.open.Statement.{statement}
 use Rattle.types.proofs.state.open.Tie as tie

@@ -1,12 +1,12 @@
--- `types::combinators::enter` meets its contract: each arm is a row of the layout.
+-- `combinators::enter` meets its contract: each arm is a row of the layout.
 use mathlib.Core.Path.{refl}
 use native.Mathlib.Omega.{arith}
-use Rattle.types.specs.States.{entered}
-use Rattle.types.specs.States.Meets.{done}
-use Rattle.types.proofs.Added.{rule-rooted, one-left}
+use Rattle.combinators.specs.Entered.{entered}
+use Rattle.combinators.specs.Entered.Meets.{done}
+use Rattle.combinators.proofs.Added.{rule-rooted, one-left}
 use borrow.Author.Needs.{needs}
-use Rattle.types.proofs.combinators.enter.Statement.{statement}
-use Rattle.types.proofs.combinators.enter.Tie as tie
+use Rattle.combinators.proofs.enter.Statement.{statement}
+use Rattle.combinators.proofs.enter.Tie as tie
 
 enum-told : tie.Need-enum-told
 enum-told c = search needs

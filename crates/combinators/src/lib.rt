@@ -21,8 +21,8 @@ ghost use Rattle.classes.specs.Turning.{Rooted};
 ghost use Rattle.classes.specs.declared.Bound.the-variants.{Free, Product};
 ghost use Rattle.nodes.specs.Layout.{case-entries};
 ghost use Rattle.nodes.specs.Meant.{Countable, meant};
-ghost use Rattle.types.specs.States.{entered};
-ghost use Rattle.types.specs.Applying.{Enterable, Named, Entering};
+ghost use Rattle.combinators.specs.Entered.{entered};
+ghost use Rattle.combinators.specs.Entering.{Enterable, Named, Entering};
 
 // The standing entries: 1, and 2^256.
 const ONE: u16 = 0;
@@ -288,7 +288,7 @@ fn unmet(parent: &[u16], rule: Rule) -> u16
     }
 }
 
-// Adds a node's entries.
+// Adds a node's entries. Its rules are joined by the caller, but for one that holds already.
 pub fn enter(
     parent: &mut [u16],
     rank: &mut [u16],

@@ -1,15 +1,15 @@
--- `types::combinators::add_case` meets its contract: four calls, one after the other.
+-- `combinators::add_case` meets its contract: four calls, one after the other.
 use mathlib.Core.Path.{_∙_}
 use mathlib.Core.List.{List, [], _∷_, _++_}
 use Prim.Native.Nat.{ℕ, _+_}
 use Rattle.classes.specs.Table.{Table, table}
 use Rattle.classes.specs.declared.Bound.{Bound}
 use Rattle.classes.specs.declared.Bound.the-variants.{Free, Sum, Product}
-use Rattle.types.specs.Applying.{Enterable}
-use Rattle.types.proofs.Added.{front, rest, both}
+use Rattle.combinators.specs.Entering.{Enterable}
+use Rattle.combinators.proofs.Added.{front, rest, both}
 use borrow.Author.Needs.{needs}
-use Rattle.types.proofs.combinators.add_case.Statement.{statement}
-use Rattle.types.proofs.combinators.add_case.Tie as tie
+use Rattle.combinators.proofs.add_case.Statement.{statement}
+use Rattle.combinators.proofs.add_case.Tie as tie
 
 -- the table that was lent
 abbrev lent : tie.Start → List ℕ → Table

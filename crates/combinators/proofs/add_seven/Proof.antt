@@ -1,14 +1,13 @@
--- `types::combinators::add_seven` meets its contract: the one call's entries, then the other's.
+-- `combinators::add_seven` meets its contract: the one call's entries, then the other's.
 use mathlib.Core.Path.{_∙_}
 use mathlib.Core.List.{List, [], _∷_}
 use Prim.Native.Nat.{ℕ}
 use Rattle.classes.specs.Table.{Table, table}
 use Rattle.classes.specs.declared.Bound.{Bound}
 use Rattle.classes.specs.declared.Bound.the-variants.{Free}
-use Rattle.types.proofs.Added.{front, rest, both}
-use borrow.Author.Needs.{needs}
-use Rattle.types.proofs.combinators.add_seven.Statement.{statement}
-use Rattle.types.proofs.combinators.add_seven.Tie as tie
+use Rattle.combinators.proofs.Added.{front, rest, both}
+use Rattle.combinators.proofs.add_seven.Statement.{statement}
+use Rattle.combinators.proofs.add_seven.Tie as tie
 
 -- the table that was lent
 abbrev lent : tie.Start → List ℕ → Table

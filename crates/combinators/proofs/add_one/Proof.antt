@@ -1,11 +1,11 @@
--- `types::combinators::add_one` meets its contract: there is room, so the other answer never comes.
+-- `combinators::add_one` meets its contract: there is room, so the other answer never comes.
 use mathlib.Core.Path.{_≡_}
 use Prim.Native.Nat.{ℕ}
 use native.Mathlib.Omega.{arith}
-use Rattle.types.proofs.Added.{one-small, one-answer, one-added}
+use Rattle.combinators.proofs.Added.{one-small, one-answer, one-added}
 use borrow.Author.Needs.{needs}
-use Rattle.types.proofs.combinators.add_one.Statement.{statement}
-use Rattle.types.proofs.combinators.add_one.Tie as tie
+use Rattle.combinators.proofs.add_one.Statement.{statement}
+use Rattle.combinators.proofs.add_one.Tie as tie
 
 add-requires : tie.Need-add-requires
 add-requires c κs = search needs
