@@ -76,9 +76,11 @@ fn put(
             Step { answer, live }
         }
         Asks::Malformed => {
-            let answer = Answer::Malformed;
-            listing::settle(listed, bytes[from], answer);
-            Step { answer, live }
+            listing::settle(listed, bytes[from], Answer::Malformed);
+            Step {
+                answer: Answer::Malformed,
+                live,
+            }
         }
     }
 }

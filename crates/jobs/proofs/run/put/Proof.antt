@@ -1,8 +1,9 @@
 -- `jobs::run::put` meets its contract: what the core promises, by what the record asks.
-use mathlib.Core.Path.{sym, ap, _∙_}
+use mathlib.Core.Path.{sym, ap, _∙_, subst}
+use native.Mathlib.Omega.{arith}
 use Rattle.nodes.specs.declared.Record.the-variants.{TakeBack}
-use Rattle.nodes.proofs.Asked.{asked, asked-proper, asked-take-back, asked-close, asked-malformed}
-use Rattle.jobs.proofs.Putting.{offer-is-no-closing, take-back-is-no-closing, put-other, put-closing, put-malformed, closing-room}
+use Rattle.nodes.proofs.Asked.{Asked, asked, asked-proper, asked-take-back, asked-close, asked-malformed}
+use Rattle.jobs.proofs.Putting.{offer-is-no-closing, take-back-is-no-closing, offer-is-not-65, take-back-is-not-65, put-settled, put-closing, put-malformed, closing-room}
 use borrow.Author.Needs.{needs}
 use Rattle.jobs.proofs.run.put.Statement.{statement}
 use Rattle.jobs.proofs.run.put.Tie as tie
@@ -40,8 +41,23 @@ close-requires c κs =
     let start = c .before .before .before .before .before .before .before .before .before .before .before .before .before .before .before .before .before .before .before .before .before .before in
     ((1024, _, _, start .pre .0), closing-room (start .pre .0) (start .pre .1 .1))
 
+shared-slice-read-settle : tie.Need-shared-slice-read-settle
+shared-slice-read-settle c = omega (arith, c .before .before .before .before .before .before .before .before .before .before .before .before .before .before .before .before .before .before .before .before .before .before .before .before .before .before .before .before .before .pre .1 .0)
+
+settle-requires : tie.Need-settle-requires
+settle-requires c κs =
+    let call = c .before .before .before .before .before .before in
+    let start = c .before .before .before .before .before .before .before .before .before .before .before .before .before .before .before .before .before .before .before .before .before .before .before .before .before .before .before .before .before in
+    omega (arith, start .pre .1 .1 .numbers, call .close .kept .1 .1 .1 .1 .1 .1 .1 .0)
+
 enum-told-4 : tie.Need-enum-told-4
 enum-told-4 c = search needs
+
+shared-slice-read-settle-2 : tie.Need-shared-slice-read-settle-2
+shared-slice-read-settle-2 c = omega (arith, c .before .before .before .before .before .before .before .before .before .before .before .before .before .before .before .before .pre .1 .0)
+
+settle-requires-2 : tie.Need-settle-requires-2
+settle-requires-2 c κs = omega (arith, c .before .before .before .before .before .before .before .before .before .before .before .before .before .before .before .before .pre .1 .1 .numbers)
 
 same-length : tie.Need-same-length
 same-length c = search needs
@@ -73,7 +89,10 @@ same-length-9 c = search needs
 returns : tie.Need-returns
 returns c =
     let call = c .before .before .before .before .before .before .before .before .before .before .before .before .before .before .before .before .before .before in
-    λ o. put-other o (call .before .node-at .ensures .0) (offer-is-no-closing _) (call .offer .ensures 1024 o)
+    let start = c .before .before .before .before .before .before .before .before .before .before .before .before .before .before .before .before .before .before .before .before .before .before .before .before .before .before .before .before .before .before .before .before .before .before .before .before .before .before .before .before .before .before .before in
+    let is = call .before .node-at .ensures .0 in
+    let other = offer-is-not-65 (subst (Asked _ _ _) is (asked (start .args .bytes .now) (start .args .from))) in
+    λ o. put-settled o other is (offer-is-no-closing _) (call .offer .ensures 1024 o)
 
 same-length-10 : tie.Need-same-length-10
 same-length-10 c = search needs
@@ -104,7 +123,8 @@ returns-2 c =
     let call = c .before .before .before .before .before .before .before .before .before .before .before .before .before .before .before .before in
     let start = c .before .before .before .before .before .before .before .before .before .before .before .before .before .before .before .before .before .before .before .before .before .before .before .before .before .before .before .before .before .before .before .before .before .before .before .before .before .before .before .before in
     let is = asked-take-back (asked (start .args .bytes .now) (start .args .from)) (sym (c .before .before .before .before .before .before .before .before .before .before .before .before .before .before .before .before .before .before .before .before .before .before .before .before .before .before .before .before .asked .ensures) ∙ c .before .before .before .before .before .before .before .before .before .before .before .before .before .before .before .before .before .before .before .before .before .before .before .before .before .before .enum-told2 .given .1) in
-    λ o. put-other o (is ∙ ap TakeBack (sym (call .before .first .ensures))) (take-back-is-no-closing _) (call .take-back .ensures 1024 o)
+    let other = take-back-is-not-65 (subst (Asked _ _ _) is (asked (start .args .bytes .now) (start .args .from))) in
+    λ o. put-settled o other (is ∙ ap TakeBack (sym (call .before .first .ensures))) (take-back-is-no-closing _) (call .take-back .ensures 1024 o)
 
 same-length-18 : tie.Need-same-length-18
 same-length-18 c = search needs
@@ -132,14 +152,19 @@ same-length-25 c = search needs
 
 returns-3 : tie.Need-returns-3
 returns-3 c =
-    let call = c .before .before .before .before in
-    let start = c .before .before .before .before .before .before .before .before .before .before .before .before .before .before .before .before .before .before .before .before .before .before .before .before .before .before .before in
-    λ o. put-closing o (asked-close (asked (start .args .bytes .now) (start .args .from)) (sym (c .before .before .before .before .before .before .before .before .before .before .before .before .before .before .before .asked .ensures) ∙ c .before .before .before .before .before .before .before .before .before .before .before .before .before .enum-told3 .given .1)) (call .close .ensures 1024 _ _ o)
+    let call = c .before .before .before .before .before .before .before .before .before in
+    let start = c .before .before .before .before .before .before .before .before .before .before .before .before .before .before .before .before .before .before .before .before .before .before .before .before .before .before .before .before .before .before .before .before in
+    let is = asked-close (asked (start .args .bytes .now) (start .args .from)) (sym (c .before .before .before .before .before .before .before .before .before .before .before .before .before .before .before .before .before .before .before .before .asked .ensures) ∙ c .before .before .before .before .before .before .before .before .before .before .before .before .before .before .before .before .before .before .enum-told3 .given .1) in
+    λ o. (_, put-closing o is (call .close .ensures 1024 _ _ o), c .before .before .settle .ensures)
+
+same-length-26 : tie.Need-same-length-26
+same-length-26 c = search needs
 
 returns-4 : tie.Need-returns-4
 returns-4 c =
-    let start = c .before .before .before .before .before .before .before .before .before .before .before .before .before .before in
-    λ o. put-malformed o (asked-malformed (asked (start .args .bytes .now) (start .args .from)) (sym (c .before .before .asked .ensures) ∙ c .enum-told4 .given .1))
+    let start = c .before .before .before .before .before .before .before .before .before .before .before .before .before .before .before .before .before .before .before in
+    let is = asked-malformed (asked (start .args .bytes .now) (start .args .from)) (sym (c .before .before .before .before .before .before .before .asked .ensures) ∙ c .before .before .before .before .before .enum-told4 .given .1) in
+    λ o. (_, put-malformed o is, c .before .before .settle2 .ensures)
 
 pub put-spec : {M : Type 1} → statement M
 put-spec =
@@ -154,7 +179,11 @@ put-spec =
     take-back-requires
     enum-told-3
     close-requires
+    shared-slice-read-settle
+    settle-requires
     enum-told-4
+    shared-slice-read-settle-2
+    settle-requires-2
     same-length
     same-length-2
     same-length-3
@@ -183,4 +212,5 @@ put-spec =
     same-length-24
     same-length-25
     returns-3
+    same-length-26
     returns-4)

@@ -1,5 +1,4 @@
 -- `jobs::run::put_bytes` meets its contract: what its calls promise, one after the other.
-use native.Mathlib.Omega.{arith}
 use Rattle.jobs.proofs.Leaving.{recorded}
 use borrow.Author.Needs.{needs}
 use Rattle.jobs.proofs.run.put_bytes.Statement.{statement}
@@ -10,14 +9,6 @@ put-requires c κs = let start = c .before .before .before .before .before .befo
 
 write-requires : tie.Need-write-requires
 write-requires c κs = c .before .before .before .before .before .before .before .before .before .before .before .before .before .before .before .before .before .before .before .before .before .before .before .before .before .before .before .before .before .before .before .before .before .before .before .before .before .before .before .before .before .before .before .before .pre .1 .1 .1
-
-shared-slice-read-settle : tie.Need-shared-slice-read-settle
-shared-slice-read-settle c = omega (arith, c .before .before .before .before .before .before .before .before .before .before .before .before .before .before .before .before .before .before .before .before .before .before .before .before .before .before .before .before .before .before .before .before .before .before .before .before .before .before .before .before .before .before .before .before .before .before .before .before .before .pre .1 .1 .0)
-
-settle-requires : tie.Need-settle-requires
-settle-requires c κs =
-    let start = c .before .before .before .before .before .before .before .before .before .before .before .before .before .before .before .before .before .before .before .before .before .before .before .before .before .before .before .before .before .before .before .before .before .before .before .before .before .before .before .before .before .before .before .before .before .before .before .before .before in
-    omega (arith, start .pre .1 .0 .numbers, c .before .before .before .before .before .before .before .before .before .before .before .before .before .before .before .before .before .before .before .before .before .before .before .before .before .before .put .kept .1 .1 .1 .1 .1 .1 .1 .1 .1 .0)
 
 same-length : tie.Need-same-length
 same-length c = search needs
@@ -54,9 +45,11 @@ same-length-11 c = search needs
 
 returns : tie.Need-returns
 returns c =
-    let put = c .before .before .before .before .before .before .before .before .before .before .before .before .before .before .before .before .before .before .before .before .before .before .before .before .before .before .before .before .before .before in
-    let start = put .before .before .before .before .before .before .before .before .before .before .before .before .before .before .before .before .before .before .before .before .before .before .before in
-    λ o. recorded o (start .args .bytes .now) (start .args .from) (put .put .ensures o) (c .before .before .before .settle .ensures) (c .before .before .before .before .before .before .before .before .write .ensures)
+    let put = c .before .before .before .before .before .before .before .before .before .before .before .before .before .before .before .before .before .before .before .before .before .before .before .before .before in
+    let start = c .before .before .before .before .before .before .before .before .before .before .before .before .before .before .before .before .before .before .before .before .before .before .before .before .before .before .before .before .before .before .before .before .before .before .before .before .before .before .before .before .before .before .before .before .before .before .before .before in
+    λ o.
+    let told = put .put .ensures o in
+    recorded o (start .args .bytes .now) (start .args .from) (told .1) (told .2) (c .before .before .before .write .ensures)
 
 pub put-bytes-spec : {M : Type 1} → statement M
 put-bytes-spec =
@@ -64,8 +57,6 @@ put-bytes-spec =
     (tie.spec
     put-requires
     write-requires
-    shared-slice-read-settle
-    settle-requires
     same-length
     same-length-2
     same-length-3
