@@ -1,6 +1,5 @@
-// Arrows and rules of nodes, on numbers alone: what a combinator adds to the class table (types::combinators) is worked out from
-// them. `e` is the number of the next entry; `s` and `t` are the arrows of the first and the second child. Rules are worked out one
-// at a time, when they are asked for.
+// Arrows and rules of nodes, on numbers alone. `e` is the number of the next entry; `s` and `t` are the arrows of the first and the
+// second child. A rule is worked out when it is asked for. What a node adds to the class table is in the crate `combinators`.
 
 use super::Coded;
 use super::Kind;

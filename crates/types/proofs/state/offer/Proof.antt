@@ -11,11 +11,11 @@ use Rattle.types.specs.Answers.{Below}
 use Rattle.combinators.specs.Entered.{entered}
 use Rattle.types.specs.States.{State, state, row-numbers, Opened}
 use Rattle.combinators.specs.Entering.{Entering}
-use Rattle.types.specs.Applying.{row-written, Applicable, Meeting, met-links}
+use Rattle.types.specs.Applying.{row-written, Meeting, met-links}
 use Rattle.nodes.specs.declared.arrow.Adds.{Adds}
 use Rattle.nodes.specs.declared.arrow.Arrow.{Arrow}
 use Rattle.types.specs.declared.state.Met.{Met}
-use Rattle.types.proofs.Applies.{meetable, clash-run, clash-marked}
+use Rattle.types.proofs.Applies.{Applicable, meetable, clash-run, clash-marked}
 use Rattle.types.proofs.Children.{second-child}
 use Rattle.types.proofs.Offering.{offer-full, row-there, offer-no-child, child-row, row-is, entries-fit, applicable, offer-refused, kept-fits, met-row, links-more, offer-kept}
 use borrow.Author.Needs.{needs}
