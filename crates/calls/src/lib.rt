@@ -10,6 +10,7 @@ use types::limits::ENTRIES;
 use types::limits::LISTING;
 use types::limits::NODES;
 use types::limits::PENDING;
+use types::limits::ROWS;
 use types::limits::TRAIL;
 use types::limits::WORK;
 use types::state;
@@ -29,10 +30,7 @@ ghost use Rattle.nodes.specs.declared.Record.the-variants.{Offer, TakeBack, Clo
 pub struct State {
     pub parent: [u16; 8225],
     pub rank: [u16; 8225],
-    pub shape: [u16; 8225],
-    pub kind: [u16; 8225],
-    pub left: [u16; 8225],
-    pub right: [u16; 8225],
+    pub rows: [u16; 32900],
     pub trail: [u16; 24675],
     pub nodes: [u16; 7168],
     pub live: Live,
@@ -57,27 +55,18 @@ pub fn open() -> State
 {
     let mut parent = [0u16; ENTRIES];
     let mut rank = [0u16; ENTRIES];
-    let mut shape = [0u16; ENTRIES];
-    let mut kind = [0u16; ENTRIES];
-    let mut left = [0u16; ENTRIES];
-    let mut right = [0u16; ENTRIES];
+    let mut rows = [0u16; ROWS];
     let trail = [0u16; TRAIL];
     let nodes = [0u16; NODES];
     let live = state::open(
         &mut parent,
         &mut rank,
-        &mut shape,
-        &mut kind,
-        &mut left,
-        &mut right,
+        &mut rows,
     );
     State {
         parent,
         rank,
-        shape,
-        kind,
-        left,
-        right,
+        rows,
         trail,
         nodes,
         live,
@@ -151,10 +140,7 @@ pub fn offer(s: State, n: Node) -> Put
     }
     let mut parent = s.parent;
     let mut rank = s.rank;
-    let mut shape = s.shape;
-    let mut kind = s.kind;
-    let mut left = s.left;
-    let mut right = s.right;
+    let mut rows = s.rows;
     let mut trail = s.trail;
     let mut nodes = s.nodes;
     let mut pending = [0u16; PENDING];
@@ -162,10 +148,7 @@ pub fn offer(s: State, n: Node) -> Put
     let step = state::offer(
         &mut parent,
         &mut rank,
-        &mut shape,
-        &mut kind,
-        &mut left,
-        &mut right,
+        &mut rows,
         &mut trail,
         &mut pending,
         &mut nodes,
@@ -179,10 +162,7 @@ pub fn offer(s: State, n: Node) -> Put
         state: State {
             parent,
             rank,
-            shape,
-            kind,
-            left,
-            right,
+            rows,
             trail,
             nodes,
             live,
@@ -197,20 +177,14 @@ pub fn take_back(s: State, to: u16) -> Put
 {
     let mut parent = s.parent;
     let mut rank = s.rank;
-    let mut shape = s.shape;
-    let mut kind = s.kind;
-    let mut left = s.left;
-    let mut right = s.right;
+    let mut rows = s.rows;
     let mut trail = s.trail;
     let mut nodes = s.nodes;
     let live = s.live;
     let step = state::take_back(
         &mut parent,
         &mut rank,
-        &mut shape,
-        &mut kind,
-        &mut left,
-        &mut right,
+        &mut rows,
         &mut trail,
         &mut nodes,
         live,
@@ -223,10 +197,7 @@ pub fn take_back(s: State, to: u16) -> Put
         state: State {
             parent,
             rank,
-            shape,
-            kind,
-            left,
-            right,
+            rows,
             trail,
             nodes,
             live,
@@ -249,20 +220,14 @@ pub fn close(s: State) -> Listed
     ensures { λ r. ⌜ ((o : Opened 1024 (state-of s)) → Called 1024 (state-of s) o Close (r .answer) (state-of (r .state)) × Handed 26727 (o .nodes) (r .listing)) ⌝ }
 {
     let parent = s.parent;
-    let shape = s.shape;
-    let kind = s.kind;
-    let left = s.left;
-    let right = s.right;
+    let rows = s.rows;
     let nodes = s.nodes;
     let live = s.live;
     let mut work = [0u16; WORK];
     let mut listing = [0u16; LISTING];
     let answer = state::close(
         &parent,
-        &shape,
-        &kind,
-        &left,
-        &right,
+        &rows,
         &nodes,
         &mut work,
         &mut listing,

@@ -8,7 +8,8 @@ ghost use mathlib.Core.Path.{_≡_};
 ghost use Prim.Native.Nat.{ℕ, min, _+_, _*_, _≤_, _<_};
 ghost use mathlib.Core.List.{List};
 ghost use lib.ListN.{length, getD};
-ghost use Rattle.classes.specs.Table.{table, root-in, given-in, kind-of, left-of, right-of};
+ghost use Rattle.classes.specs.Table.{root-in, kind-of, left-of, right-of};
+ghost use Rattle.classes.specs.Columns.{column, height, given-row, laid};
 ghost use Rattle.classes.specs.Merging.{meeting, shown-by, upper-in, lower-in};
 ghost use Rattle.classes.specs.Made.{Made};
 ghost use Rattle.classes.specs.Promises.{AddedBy, entries-then, Joining, made-links};
@@ -90,68 +91,53 @@ fn right_of(b: Bound) -> u16
 }
 
 // Adds an entry with its bound, in a class of its own.
-pub fn add(
-    parent: &mut [u16],
-    rank: &mut [u16],
-    shape: &mut [u16],
-    kind: &mut [u16],
-    left: &mut [u16],
-    right: &mut [u16],
-    live: Mark,
-    b: Bound,
-) -> Added
-    requires { ⌜ ((trail : List ℕ) × Made (table (now parent) (now rank) (now shape) (now kind) (now left) (now right) trail (live .entries) (live .links))) ⌝ }
+pub fn add(parent: &mut [u16], rank: &mut [u16], rows: &mut [u16], live: Mark, b: Bound) -> Added
+    requires { ⌜ ((trail : List ℕ) × Made (laid (now parent) (now rank) (now rows) trail (live .entries) (live .links))) ⌝ }
     ensures { λ r. ⌜ ((trail : List ℕ) → AddedBy
-        (table (now (parent .entry)) (now (rank .entry)) (now (shape .entry)) (now (kind .entry)) (now (left .entry)) (now (right .entry)) trail (live .entries) (live .links))
+        (laid (now (parent .entry)) (now (rank .entry)) (now (rows .entry)) trail (live .entries) (live .links))
         b r
-        (table (now (parent .exit)) (now (rank .exit)) (now (shape .exit)) (now (kind .exit)) (now (left .exit)) (now (right .exit)) trail (entries-then (live .entries) r) (live .links))) ⌝ }
+        (laid (now (parent .exit)) (now (rank .exit)) (now (rows .exit)) trail (entries-then (live .entries) r) (live .links))) ⌝ }
 {
     let entry = live.entries;
     let e = entry as usize;
     if parent.len() <= e {
         return Added::Full;
     }
+    let row = 4 * e;
     parent[e] = entry;
     rank[e] = 0;
-    shape[e] = entry;
-    kind[e] = kind_of(b);
-    left[e] = left_of(b);
-    right[e] = right_of(b);
+    rows[row] = kind_of(b);
+    rows[row + 1] = left_of(b);
+    rows[row + 2] = right_of(b);
+    rows[row + 3] = entry;
     Added::Entry(entry)
 }
 
 // The bound that entry a was given.
-pub fn bound(kind: &[u16], left: &[u16], right: &[u16], a: u16) -> Bound
-    requires { ⌜ (a < length (now kind)) × (a < length (now left)) × (a < length (now right)) ⌝ }
-    ensures { λ r. ⌜ r ≡ given-in (now (kind .entry)) (now (left .entry)) (now (right .entry)) a ⌝ }
+pub fn bound(rows: &[u16], a: u16) -> Bound
+    requires { ⌜ a < height (now rows) ⌝ }
+    ensures { λ r. ⌜ r ≡ given-row (now (rows .entry)) a ⌝ }
 {
-    let e = a as usize;
-    let k = kind[e];
+    let row = 4 * (a as usize);
+    let k = rows[row];
     match k {
         0 => Bound::Free,
         1 => Bound::Unit,
-        2 => Bound::Sum(left[e], right[e]),
-        _ => Bound::Product(left[e], right[e]),
+        2 => Bound::Sum(rows[row + 1], rows[row + 2]),
+        _ => Bound::Product(rows[row + 1], rows[row + 2]),
     }
 }
 
 // The bound that a's class shows.
-pub fn shown(
-    parent: &[u16],
-    shape: &[u16],
-    kind: &[u16],
-    left: &[u16],
-    right: &[u16],
-    a: u16,
-) -> Bound
+pub fn shown(parent: &[u16], rows: &[u16], a: u16) -> Bound
     requires { ⌜ Rooted (now parent) a ⌝ }
-    requires { ⌜ root-in (now parent) a < length (now shape) ⌝ }
-    requires { ⌜ (getD (now shape) (root-in (now parent) a) 0 < length (now kind)) × (getD (now shape) (root-in (now parent) a) 0 < length (now left)) × (getD (now shape) (root-in (now parent) a) 0 < length (now right)) ⌝ }
-    ensures { λ r. ⌜ r ≡ given-in (now (kind .entry)) (now (left .entry)) (now (right .entry)) (getD (now (shape .entry)) (root-in (now (parent .entry)) a) 0) ⌝ }
+    requires { ⌜ root-in (now parent) a < height (now rows) ⌝ }
+    requires { ⌜ getD (column 3 (now rows)) (root-in (now parent) a) 0 < height (now rows) ⌝ }
+    ensures { λ r. ⌜ r ≡ given-row (now (rows .entry)) (getD (column 3 (now (rows .entry))) (root-in (now (parent .entry)) a) 0) ⌝ }
 {
     let r = union_bound::root(parent, a);
-    let s = shape[r as usize];
-    bound(kind, left, right, s)
+    let s = rows[4 * (r as usize) + 3];
+    bound(rows, s)
 }
 
 // The number of the form that a kind is read as: past 3 it is a product.
@@ -162,13 +148,14 @@ fn form(k: u16) -> u16
 }
 
 // What follows when one class has the bounds of both entries, the standing class's first.
-fn meet(kind: &[u16], left: &[u16], right: &[u16], own: u16, other: u16) -> Meeting
-    requires { ⌜ (own < length (now kind)) × (own < length (now left)) × (own < length (now right)) ⌝ }
-    requires { ⌜ (other < length (now kind)) × (other < length (now left)) × (other < length (now right)) ⌝ }
-    ensures { λ r. ⌜ r ≡ meeting (given-in (now (kind .entry)) (now (left .entry)) (now (right .entry)) own) (given-in (now (kind .entry)) (now (left .entry)) (now (right .entry)) other) ⌝ }
+fn meet(rows: &[u16], own: u16, other: u16) -> Meeting
+    requires { ⌜ (own < height (now rows)) × (other < height (now rows)) ⌝ }
+    ensures { λ r. ⌜ r ≡ meeting (given-row (now (rows .entry)) own) (given-row (now (rows .entry)) other) ⌝ }
 {
-    let k = kind[own as usize];
-    let l = kind[other as usize];
+    let one = 4 * (own as usize);
+    let two = 4 * (other as usize);
+    let k = rows[one];
+    let l = rows[two];
     if k == 0 {
         return Meeting::Agree;
     }
@@ -181,20 +168,19 @@ fn meet(kind: &[u16], left: &[u16], right: &[u16], own: u16, other: u16) -> Meet
     if k == 1 {
         return Meeting::Agree;
     }
-    Meeting::Parts(
-        left[own as usize],
-        left[other as usize],
-        right[own as usize],
-        right[other as usize],
-    )
+    Meeting::Parts(rows[one + 1], rows[two + 1], rows[one + 2], rows[two + 2])
 }
 
 // The entry whose bound the joined class shows: the standing class's own, or the other's if that one is free.
-fn shows(kind: &[u16], own: u16, other: u16) -> u16
-    requires { ⌜ own < length (now kind) ⌝ }
-    ensures { λ r. ⌜ ((left right : List ℕ) → r ≡ shown-by (given-in (now (kind .entry)) left right own) own other) ⌝ }
+fn shows(rows: &[u16], own: u16, other: u16) -> u16
+    requires { ⌜ own < height (now rows) ⌝ }
+    ensures { λ r. ⌜ r ≡ shown-by (given-row (now (rows .entry)) own) own other ⌝ }
 {
-    if kind[own as usize] == 0 { other } else { own }
+    if rows[4 * (own as usize)] == 0 {
+        other
+    } else {
+        own
+    }
 }
 
 // Of two roots, the one that stands and the one that goes below it: the higher rank stands, on equal ranks the first.
@@ -244,10 +230,7 @@ fn push_parts(pending: &mut [u16], waiting: usize, met: Meeting) -> usize
 fn merge(
     parent: &mut [u16],
     rank: &mut [u16],
-    shape: &mut [u16],
-    kind: &[u16],
-    left: &[u16],
-    right: &[u16],
+    rows: &mut [u16],
     trail: &mut [u16],
     pending: &mut [u16],
     links: u16,
@@ -255,25 +238,25 @@ fn merge(
     stands: u16,
     below: u16,
 ) -> Turn
-    requires { ⌜ ((e : ℕ) × Linkable (table (now parent) (now rank) (now shape) (now kind) (now left) (now right) (now trail) e links) (now pending) waiting stands below) ⌝ }
+    requires { ⌜ ((e : ℕ) × Linkable (laid (now parent) (now rank) (now rows) (now trail) e links) (now pending) waiting stands below) ⌝ }
     ensures { λ r. ⌜ ((e : ℕ) → Linking
-        (table (now (parent .entry)) (now (rank .entry)) (now (shape .entry)) (now (kind .entry)) (now (left .entry)) (now (right .entry)) (now (trail .entry)) e links)
+        (laid (now (parent .entry)) (now (rank .entry)) (now (rows .entry)) (now (trail .entry)) e links)
         (now (pending .entry)) waiting stands below r
-        (table (now (parent .exit)) (now (rank .exit)) (now (shape .exit)) (now (kind .entry)) (now (left .entry)) (now (right .entry)) (now (trail .exit)) e (links-then links r))
+        (laid (now (parent .exit)) (now (rank .exit)) (now (rows .exit)) (now (trail .exit)) e (links-then links r))
         (now (pending .exit))) ⌝ }
 {
-    let own = shape[stands as usize];
-    let other = shape[below as usize];
+    let own = rows[4 * (stands as usize) + 3];
+    let other = rows[4 * (below as usize) + 3];
     let higher = union_bound::raised(rank[below as usize], rank[stands as usize]);
-    let shape_then = shows(kind, own, other);
-    let met = meet(kind, left, right, own, other);
+    let shape_then = shows(rows, own, other);
+    let met = meet(rows, own, other);
     if let Meeting::Apart = met {
         return Turn::Clash;
     }
     union_bound::link(
         parent,
         rank,
-        shape,
+        rows,
         trail,
         links,
         below,
@@ -288,20 +271,17 @@ fn merge(
 fn take_turn(
     parent: &mut [u16],
     rank: &mut [u16],
-    shape: &mut [u16],
-    kind: &[u16],
-    left: &[u16],
-    right: &[u16],
+    rows: &mut [u16],
     trail: &mut [u16],
     pending: &mut [u16],
     links: u16,
     waiting: usize,
 ) -> Turn
-    requires { ⌜ ((e : ℕ) × Turnable (table (now parent) (now rank) (now shape) (now kind) (now left) (now right) (now trail) e links) (now pending) waiting) ⌝ }
-    ensures { λ r. ⌜ ((e : ℕ) → Turnable (table (now (parent .entry)) (now (rank .entry)) (now (shape .entry)) (now (kind .entry)) (now (left .entry)) (now (right .entry)) (now (trail .entry)) e links) (now (pending .entry)) waiting → Turned
-        (table (now (parent .entry)) (now (rank .entry)) (now (shape .entry)) (now (kind .entry)) (now (left .entry)) (now (right .entry)) (now (trail .entry)) e links)
+    requires { ⌜ ((e : ℕ) × Turnable (laid (now parent) (now rank) (now rows) (now trail) e links) (now pending) waiting) ⌝ }
+    ensures { λ r. ⌜ ((e : ℕ) → Turnable (laid (now (parent .entry)) (now (rank .entry)) (now (rows .entry)) (now (trail .entry)) e links) (now (pending .entry)) waiting → Turned
+        (laid (now (parent .entry)) (now (rank .entry)) (now (rows .entry)) (now (trail .entry)) e links)
         (waiting-in (now (pending .entry)) waiting) waiting r
-        (table (now (parent .exit)) (now (rank .exit)) (now (shape .exit)) (now (kind .entry)) (now (left .entry)) (now (right .entry)) (now (trail .exit)) e (links-then links r))
+        (laid (now (parent .exit)) (now (rank .exit)) (now (rows .exit)) (now (trail .exit)) e (links-then links r))
         (waiting-in (now (pending .exit)) (waiting-then r))) ⌝ }
 {
     let top = waiting - 1;
@@ -316,10 +296,7 @@ fn take_turn(
     merge(
         parent,
         rank,
-        shape,
-        kind,
-        left,
-        right,
+        rows,
         trail,
         pending,
         links,
@@ -333,22 +310,19 @@ fn take_turn(
 pub fn join(
     parent: &mut [u16],
     rank: &mut [u16],
-    shape: &mut [u16],
-    kind: &[u16],
-    left: &[u16],
-    right: &[u16],
+    rows: &mut [u16],
     trail: &mut [u16],
     pending: &mut [u16],
     live: Mark,
     a: u16,
     b: u16,
 ) -> Joined
-    requires { ⌜ Made (table (now parent) (now rank) (now shape) (now kind) (now left) (now right) (now trail) (live .entries) (live .links)) ⌝ }
+    requires { ⌜ Made (laid (now parent) (now rank) (now rows) (now trail) (live .entries) (live .links)) ⌝ }
     requires { ⌜ (a < live .entries) × (b < live .entries) × (2 * length (now parent) ≤ length (now pending)) ⌝ }
     ensures { λ r. ⌜ Joining
-        (table (now (parent .entry)) (now (rank .entry)) (now (shape .entry)) (now (kind .entry)) (now (left .entry)) (now (right .entry)) (now (trail .entry)) (live .entries) (live .links))
+        (laid (now (parent .entry)) (now (rank .entry)) (now (rows .entry)) (now (trail .entry)) (live .entries) (live .links))
         a b r
-        (table (now (parent .exit)) (now (rank .exit)) (now (shape .exit)) (now (kind .entry)) (now (left .entry)) (now (right .entry)) (now (trail .exit)) (live .entries) (live .links + made-links r)) ⌝ }
+        (laid (now (parent .exit)) (now (rank .exit)) (now (rows .exit)) (now (trail .exit)) (live .entries) (live .links + made-links r)) ⌝ }
 {
     let before = live.links;
     let mut links = before;
@@ -358,18 +332,7 @@ pub fn join(
         if waiting == 0 {
             return Joined::Done(links - before);
         }
-        let Turn::Goes(w, l) = take_turn(
-            parent,
-            rank,
-            shape,
-            kind,
-            left,
-            right,
-            trail,
-            pending,
-            links,
-            waiting,
-        ) else {
+        let Turn::Goes(w, l) = take_turn(parent, rank, rows, trail, pending, links, waiting) else {
             return Joined::Clash(links - before);
         };
         waiting = w;

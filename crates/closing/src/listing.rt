@@ -11,7 +11,8 @@ ghost use mathlib.Core.List.{List, []};
 ghost use Prim.Native.Nat.{ℕ, _+_, _*_, _^_, _≤_, _<_};
 ghost use lib.ListN.{length};
 ghost use Rattle.classes.specs.Forced.{Rule};
-ghost use Rattle.classes.specs.Table.{table, bounds};
+ghost use Rattle.classes.specs.Table.{bounds};
+ghost use Rattle.classes.specs.Columns.{laid};
 ghost use Rattle.classes.specs.Made.{Stands};
 ghost use Rattle.typing.specs.Types.{Ty};
 ghost use Rattle.closing.specs.Closings.{source-at, target-at, ClosedBy};
@@ -45,10 +46,7 @@ fn clear(work: &mut [u16], entries: u16)
 // Visits an entry whose class may have its number already.
 fn visit_unless_numbered(
     parent: &[u16],
-    shape: &[u16],
-    kind: &[u16],
-    left: &[u16],
-    right: &[u16],
+    rows: &[u16],
     work: &mut [u16],
     listing: &mut [u16],
     entries: u16,
@@ -56,39 +54,25 @@ fn visit_unless_numbered(
     a: u16,
 ) -> Visited
     requires { ⌜ ((rank trail : List ℕ) × (links : ℕ) × (rules : List Rule) × (ts : List Ty)
-        × Stands (table (now parent) rank (now shape) (now kind) (now left) (now right) trail entries links) rules
-        × Settled (table (now parent) rank (now shape) (now kind) (now left) (now right) trail entries links) rules (now work) (now listing) count ts) ⌝ }
+        × Stands (laid (now parent) rank (now rows) trail entries links) rules
+        × Settled (laid (now parent) rank (now rows) trail entries links) rules (now work) (now listing) count ts) ⌝ }
     requires { ⌜ a < entries ⌝ }
     ensures { λ r. ⌜ ((rank trail : List ℕ) (links : ℕ) (rules : List Rule) (ts : List Ty)
-        → Stands (table (now (parent .entry)) rank (now (shape .entry)) (now (kind .entry)) (now (left .entry)) (now (right .entry)) trail entries links) rules
-        → Settled (table (now (parent .entry)) rank (now (shape .entry)) (now (kind .entry)) (now (left .entry)) (now (right .entry)) trail entries links) rules (now (work .entry)) (now (listing .entry)) count ts
-        → VisitedBy (table (now (parent .entry)) rank (now (shape .entry)) (now (kind .entry)) (now (left .entry)) (now (right .entry)) trail entries links) rules (now (work .entry)) (now (listing .entry)) count ts a r (now (work .exit)) (now (listing .exit))) ⌝ }
+        → Stands (laid (now (parent .entry)) rank (now (rows .entry)) trail entries links) rules
+        → Settled (laid (now (parent .entry)) rank (now (rows .entry)) trail entries links) rules (now (work .entry)) (now (listing .entry)) count ts
+        → VisitedBy (laid (now (parent .entry)) rank (now (rows .entry)) trail entries links) rules (now (work .entry)) (now (listing .entry)) count ts a r (now (work .exit)) (now (listing .exit))) ⌝ }
 {
     if walk::is_numbered(parent, work, a) {
         return Visited::Done(count);
     }
-    walk::visit(
-        parent,
-        shape,
-        kind,
-        left,
-        right,
-        work,
-        listing,
-        entries,
-        count,
-        a,
-    )
+    walk::visit(parent, rows, work, listing, entries, count, a)
 }
 
 // Visits a node's source, then its target. The source is looked at here: as `walk::visit` then has two callers, the compiler leaves
 // it a call of its own, and a node whose types have their numbers pays for the looks alone.
 fn visit_arrow(
     parent: &[u16],
-    shape: &[u16],
-    kind: &[u16],
-    left: &[u16],
-    right: &[u16],
+    rows: &[u16],
     work: &mut [u16],
     listing: &mut [u16],
     entries: u16,
@@ -97,63 +81,28 @@ fn visit_arrow(
     target: u16,
 ) -> Visited
     requires { ⌜ ((rank trail : List ℕ) × (links : ℕ) × (rules : List Rule) × (ts : List Ty)
-        × Stands (table (now parent) rank (now shape) (now kind) (now left) (now right) trail entries links) rules
-        × Settled (table (now parent) rank (now shape) (now kind) (now left) (now right) trail entries links) rules (now work) (now listing) count ts) ⌝ }
+        × Stands (laid (now parent) rank (now rows) trail entries links) rules
+        × Settled (laid (now parent) rank (now rows) trail entries links) rules (now work) (now listing) count ts) ⌝ }
     requires { ⌜ (source < entries) × (target < entries) ⌝ }
     ensures { λ r. ⌜ ((rank trail : List ℕ) (links : ℕ) (rules : List Rule) (ts : List Ty)
-        → Stands (table (now (parent .entry)) rank (now (shape .entry)) (now (kind .entry)) (now (left .entry)) (now (right .entry)) trail entries links) rules
-        → Settled (table (now (parent .entry)) rank (now (shape .entry)) (now (kind .entry)) (now (left .entry)) (now (right .entry)) trail entries links) rules (now (work .entry)) (now (listing .entry)) count ts
-        → ArrowBy (table (now (parent .entry)) rank (now (shape .entry)) (now (kind .entry)) (now (left .entry)) (now (right .entry)) trail entries links) rules (now (work .entry)) (now (listing .entry)) count ts source target r (now (work .exit)) (now (listing .exit))) ⌝ }
+        → Stands (laid (now (parent .entry)) rank (now (rows .entry)) trail entries links) rules
+        → Settled (laid (now (parent .entry)) rank (now (rows .entry)) trail entries links) rules (now (work .entry)) (now (listing .entry)) count ts
+        → ArrowBy (laid (now (parent .entry)) rank (now (rows .entry)) trail entries links) rules (now (work .entry)) (now (listing .entry)) count ts source target r (now (work .exit)) (now (listing .exit))) ⌝ }
 {
     if walk::is_numbered(parent, work, source) {
-        return visit_unless_numbered(
-            parent,
-            shape,
-            kind,
-            left,
-            right,
-            work,
-            listing,
-            entries,
-            count,
-            target,
-        );
+        return visit_unless_numbered(parent, rows, work, listing, entries, count, target);
     }
-    let Visited::Done(types) = walk::visit(
-        parent,
-        shape,
-        kind,
-        left,
-        right,
-        work,
-        listing,
-        entries,
-        count,
-        source,
-    ) else {
+    let Visited::Done(types) = walk::visit(parent, rows, work, listing, entries, count, source)
+    else {
         return Visited::Cycle;
     };
-    visit_unless_numbered(
-        parent,
-        shape,
-        kind,
-        left,
-        right,
-        work,
-        listing,
-        entries,
-        types,
-        target,
-    )
+    visit_unless_numbered(parent, rows, work, listing, entries, types, target)
 }
 
 // Visits the nodes in order, and leaves at once with the first that has no types.
 fn visit_all(
     parent: &[u16],
-    shape: &[u16],
-    kind: &[u16],
-    left: &[u16],
-    right: &[u16],
+    rows: &[u16],
     nodes: &[u16],
     work: &mut [u16],
     listing: &mut [u16],
@@ -161,13 +110,13 @@ fn visit_all(
     kept: u16,
 ) -> Closing
     requires { ⌜ ((rank trail : List ℕ) × (links : ℕ) × (rules : List Rule)
-        × Stands (table (now parent) rank (now shape) (now kind) (now left) (now right) trail entries links) rules
-        × Settled (table (now parent) rank (now shape) (now kind) (now left) (now right) trail entries links) rules (now work) (now listing) 0 []) ⌝ }
+        × Stands (laid (now parent) rank (now rows) trail entries links) rules
+        × Settled (laid (now parent) rank (now rows) trail entries links) rules (now work) (now listing) 0 []) ⌝ }
     requires { ⌜ Closable entries (now nodes) (now work) (now listing) kept ⌝ }
     ensures { λ r. ⌜ ((rank trail : List ℕ) (links : ℕ) (rules : List Rule)
-        → Stands (table (now (parent .entry)) rank (now (shape .entry)) (now (kind .entry)) (now (left .entry)) (now (right .entry)) trail entries links) rules
-        → Settled (table (now (parent .entry)) rank (now (shape .entry)) (now (kind .entry)) (now (left .entry)) (now (right .entry)) trail entries links) rules (now (work .entry)) (now (listing .entry)) 0 []
-        → AllBy (table (now (parent .entry)) rank (now (shape .entry)) (now (kind .entry)) (now (left .entry)) (now (right .entry)) trail entries links) rules (now (nodes .entry)) (now (listing .entry)) kept r (now (work .exit)) (now (listing .exit))) ⌝ }
+        → Stands (laid (now (parent .entry)) rank (now (rows .entry)) trail entries links) rules
+        → Settled (laid (now (parent .entry)) rank (now (rows .entry)) trail entries links) rules (now (work .entry)) (now (listing .entry)) 0 []
+        → AllBy (laid (now (parent .entry)) rank (now (rows .entry)) trail entries links) rules (now (nodes .entry)) (now (listing .entry)) kept r (now (work .exit)) (now (listing .exit))) ⌝ }
 {
     let mut i: u16 = 0;
     let mut count: u16 = 0;
@@ -175,10 +124,7 @@ fn visit_all(
         let row = NODE * (i as usize);
         let Visited::Done(types) = visit_arrow(
             parent,
-            shape,
-            kind,
-            left,
-            right,
+            rows,
             work,
             listing,
             entries,
@@ -243,10 +189,7 @@ fn write(parent: &[u16], nodes: &[u16], work: &[u16], listing: &mut [u16], count
 // Closes: the tables are read only, so what is free stays free.
 pub fn close(
     parent: &[u16],
-    shape: &[u16],
-    kind: &[u16],
-    left: &[u16],
-    right: &[u16],
+    rows: &[u16],
     nodes: &[u16],
     work: &mut [u16],
     listing: &mut [u16],
@@ -254,25 +197,14 @@ pub fn close(
     kept: u16,
 ) -> Closing
     requires { ⌜ ((rank trail : List ℕ) × (links : ℕ) × (rules : List Rule)
-        × Stands (table (now parent) rank (now shape) (now kind) (now left) (now right) trail entries links) rules) ⌝ }
+        × Stands (laid (now parent) rank (now rows) trail entries links) rules) ⌝ }
     requires { ⌜ Closable entries (now nodes) (now work) (now listing) kept ⌝ }
     ensures { λ r. ⌜ ((rank trail : List ℕ) (links : ℕ) (rules : List Rule)
-        → Stands (table (now (parent .entry)) rank (now (shape .entry)) (now (kind .entry)) (now (left .entry)) (now (right .entry)) trail entries links) rules
-        → ClosedBy (bounds (table (now (parent .entry)) rank (now (shape .entry)) (now (kind .entry)) (now (left .entry)) (now (right .entry)) trail entries links)) rules (now (nodes .entry)) kept (now (listing .entry)) r (now (listing .exit))) ⌝ }
+        → Stands (laid (now (parent .entry)) rank (now (rows .entry)) trail entries links) rules
+        → ClosedBy (bounds (laid (now (parent .entry)) rank (now (rows .entry)) trail entries links)) rules (now (nodes .entry)) kept (now (listing .entry)) r (now (listing .exit))) ⌝ }
 {
     clear(work, entries);
-    match visit_all(
-        parent,
-        shape,
-        kind,
-        left,
-        right,
-        nodes,
-        work,
-        listing,
-        entries,
-        kept,
-    ) {
+    match visit_all(parent, rows, nodes, work, listing, entries, kept) {
         Closing::Endless(i) => Closing::Endless(i),
         Closing::Types(count) => {
             write(parent, nodes, work, listing, count, kept);

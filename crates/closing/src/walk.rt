@@ -11,7 +11,8 @@ ghost use mathlib.Core.List.{List};
 ghost use Prim.Native.Nat.{ℕ, _+_, _-_, _*_, _<_};
 ghost use lib.ListN.{length, getD};
 ghost use Rattle.classes.specs.Forced.{Rule};
-ghost use Rattle.classes.specs.Table.{table, root-in};
+ghost use Rattle.classes.specs.Table.{root-in};
+ghost use Rattle.classes.specs.Columns.{column, laid};
 ghost use Rattle.classes.specs.Turning.{Rooted};
 ghost use Rattle.classes.specs.Made.{Stands};
 ghost use Rattle.typing.specs.Types.{Ty};
@@ -35,12 +36,12 @@ pub enum Turn {
 }
 
 // The bound that the class of r shows, its parts' representatives in place of its parts.
-fn look(parent: &[u16], shape: &[u16], kind: &[u16], left: &[u16], right: &[u16], r: u16) -> Bound
-    requires { ⌜ Seeable (now parent) (now shape) (now kind) (now left) (now right) r ⌝ }
-    ensures { λ b. ⌜ b ≡ seen (now (parent .entry)) (now (shape .entry)) (now (kind .entry)) (now (left .entry)) (now (right .entry)) r ⌝ }
+fn look(parent: &[u16], rows: &[u16], r: u16) -> Bound
+    requires { ⌜ Seeable (now parent) (column 3 (now rows)) (column 0 (now rows)) (column 1 (now rows)) (column 2 (now rows)) r ⌝ }
+    ensures { λ b. ⌜ b ≡ seen (now (parent .entry)) (column 3 (now (rows .entry))) (column 0 (now (rows .entry))) (column 1 (now (rows .entry))) (column 2 (now (rows .entry))) r ⌝ }
 {
-    let s = shape[r as usize];
-    match context::bound(kind, left, right, s) {
+    let s = rows[4 * (r as usize) + 3];
+    match context::bound(rows, s) {
         Bound::Free => Bound::Free,
         Bound::Unit => Bound::Unit,
         Bound::Sum(a, b) => {
@@ -133,10 +134,7 @@ fn part(
 // One step: looks at the class at the top of the path.
 fn step(
     parent: &[u16],
-    shape: &[u16],
-    kind: &[u16],
-    left: &[u16],
-    right: &[u16],
+    rows: &[u16],
     work: &mut [u16],
     listing: &mut [u16],
     entries: u16,
@@ -144,14 +142,14 @@ fn step(
     count: u16,
 ) -> Turn
     requires { ⌜ Steppable entries (now work) (now listing) depth count ⌝ }
-    requires { ⌜ Seeable (now parent) (now shape) (now kind) (now left) (now right) (getD (now work) (4 * (depth - 1) + 1) 0)
-        × PartsBelow entries (seen (now parent) (now shape) (now kind) (now left) (now right) (getD (now work) (4 * (depth - 1) + 1) 0)) ⌝ }
+    requires { ⌜ Seeable (now parent) (column 3 (now rows)) (column 0 (now rows)) (column 1 (now rows)) (column 2 (now rows)) (getD (now work) (4 * (depth - 1) + 1) 0)
+        × PartsBelow entries (seen (now parent) (column 3 (now rows)) (column 0 (now rows)) (column 1 (now rows)) (column 2 (now rows)) (getD (now work) (4 * (depth - 1) + 1) 0)) ⌝ }
     ensures { λ x. ⌜ Stepped entries (now (work .entry)) (now (listing .entry)) depth count (getD (now (work .entry)) (4 * (depth - 1) + 1) 0)
-        (seen (now (parent .entry)) (now (shape .entry)) (now (kind .entry)) (now (left .entry)) (now (right .entry)) (getD (now (work .entry)) (4 * (depth - 1) + 1) 0))
+        (seen (now (parent .entry)) (column 3 (now (rows .entry))) (column 0 (now (rows .entry))) (column 1 (now (rows .entry))) (column 2 (now (rows .entry))) (getD (now (work .entry)) (4 * (depth - 1) + 1) 0))
         x (now (work .exit)) (now (listing .exit)) ⌝ }
 {
     let top = work[ROW * ((depth - 1) as usize) + PATH];
-    match look(parent, shape, kind, left, right, top) {
+    match look(parent, rows, top) {
         Bound::Free => complete(work, listing, entries, depth, count, top, 0, 0, 0),
         Bound::Unit => complete(work, listing, entries, depth, count, top, 0, 0, 0),
         Bound::Sum(l, r) => part(work, listing, entries, depth, count, top, 1, l, r),
@@ -169,10 +167,7 @@ pub enum Visited {
 // mostly have their numbers already, and looking is cheaper than the call.
 pub(super) fn visit(
     parent: &[u16],
-    shape: &[u16],
-    kind: &[u16],
-    left: &[u16],
-    right: &[u16],
+    rows: &[u16],
     work: &mut [u16],
     listing: &mut [u16],
     entries: u16,
@@ -180,14 +175,14 @@ pub(super) fn visit(
     a: u16,
 ) -> Visited
     requires { ⌜ ((rank trail : List ℕ) × (links : ℕ) × (rules : List Rule) × (ts : List Ty)
-        × Stands (table (now parent) rank (now shape) (now kind) (now left) (now right) trail entries links) rules
-        × Settled (table (now parent) rank (now shape) (now kind) (now left) (now right) trail entries links) rules (now work) (now listing) count ts) ⌝ }
+        × Stands (laid (now parent) rank (now rows) trail entries links) rules
+        × Settled (laid (now parent) rank (now rows) trail entries links) rules (now work) (now listing) count ts) ⌝ }
     requires { ⌜ a < entries ⌝ }
     requires { ⌜ mark-at (now work) (root-in (now parent) a) ≡ 0 ⌝ }
     ensures { λ r. ⌜ ((rank trail : List ℕ) (links : ℕ) (rules : List Rule) (ts : List Ty)
-        → Stands (table (now (parent .entry)) rank (now (shape .entry)) (now (kind .entry)) (now (left .entry)) (now (right .entry)) trail entries links) rules
-        → Settled (table (now (parent .entry)) rank (now (shape .entry)) (now (kind .entry)) (now (left .entry)) (now (right .entry)) trail entries links) rules (now (work .entry)) (now (listing .entry)) count ts
-        → VisitedBy (table (now (parent .entry)) rank (now (shape .entry)) (now (kind .entry)) (now (left .entry)) (now (right .entry)) trail entries links) rules (now (work .entry)) (now (listing .entry)) count ts a r (now (work .exit)) (now (listing .exit))) ⌝ }
+        → Stands (laid (now (parent .entry)) rank (now (rows .entry)) trail entries links) rules
+        → Settled (laid (now (parent .entry)) rank (now (rows .entry)) trail entries links) rules (now (work .entry)) (now (listing .entry)) count ts
+        → VisitedBy (laid (now (parent .entry)) rank (now (rows .entry)) trail entries links) rules (now (work .entry)) (now (listing .entry)) count ts a r (now (work .exit)) (now (listing .exit))) ⌝ }
 {
     open(work, 0, union_bound::root(parent, a));
     let mut depth: u16 = 1;
@@ -196,18 +191,7 @@ pub(super) fn visit(
         if depth == 0 {
             return Visited::Done(types);
         }
-        let Turn::Goes(d, c) = step(
-            parent,
-            shape,
-            kind,
-            left,
-            right,
-            work,
-            listing,
-            entries,
-            depth,
-            types,
-        ) else {
+        let Turn::Goes(d, c) = step(parent, rows, work, listing, entries, depth, types) else {
             return Visited::Cycle;
         };
         depth = d;

@@ -11,6 +11,7 @@ use formats::listing;
 use types::limits::ENTRIES;
 use types::limits::LISTING;
 use types::limits::NODES;
+use types::limits::ROWS;
 use types::limits::TRAIL;
 use types::limits::WORK;
 use types::state;
@@ -26,10 +27,7 @@ pub fn job(job: &[u8], answers: &mut [u8], listing: &mut [u16]) -> Outcome
     };
     let mut parent = [0u16; ENTRIES];
     let mut rank = [0u16; ENTRIES];
-    let mut shape = [0u16; ENTRIES];
-    let mut kind = [0u16; ENTRIES];
-    let mut left = [0u16; ENTRIES];
-    let mut right = [0u16; ENTRIES];
+    let mut rows = [0u16; ROWS];
     let mut trail = [0u16; TRAIL];
     let mut work = [0u16; WORK];
     let mut nodes = [0u16; NODES];
@@ -37,19 +35,13 @@ pub fn job(job: &[u8], answers: &mut [u8], listing: &mut [u16]) -> Outcome
     let live = state::open(
         &mut parent,
         &mut rank,
-        &mut shape,
-        &mut kind,
-        &mut left,
-        &mut right,
+        &mut rows,
     );
     listing::clear(&mut listed);
     run::run(
         &mut parent,
         &mut rank,
-        &mut shape,
-        &mut kind,
-        &mut left,
-        &mut right,
+        &mut rows,
         &mut trail,
         &mut work,
         &mut nodes,

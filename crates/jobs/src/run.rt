@@ -14,7 +14,7 @@ ghost use mathlib.Core.Path.{_≡_};
 ghost use mathlib.Core.List.{List};
 ghost use Prim.Native.Nat.{ℕ, _+_, _*_, _≤_};
 ghost use lib.ListN.{length, getD};
-ghost use Rattle.classes.specs.Table.{table};
+ghost use Rattle.classes.specs.Columns.{laid};
 ghost use Rattle.nodes.specs.Records.{record-at};
 ghost use Rattle.types.specs.States.{state, Opened};
 ghost use Rattle.formats.specs.Shown.{settled};
@@ -25,10 +25,7 @@ ghost use Rattle.jobs.specs.Putting.{Room, Put, Recorded, Puts};
 fn put(
     parent: &mut [u16],
     rank: &mut [u16],
-    shape: &mut [u16],
-    kind: &mut [u16],
-    left: &mut [u16],
-    right: &mut [u16],
+    rows: &mut [u16],
     trail: &mut [u16],
     work: &mut [u16],
     nodes: &mut [u16],
@@ -37,21 +34,18 @@ fn put(
     bytes: &[u8],
     from: usize,
 ) -> Step
-    requires { ⌜ Opened 1024 (state (table (now parent) (now rank) (now shape) (now kind) (now left) (now right) (now trail) (live .entries) (live .links)) (now nodes) (live .kept)) ⌝ }
-    requires { ⌜ (from + 8 ≤ length (now bytes)) × Room (state (table (now parent) (now rank) (now shape) (now kind) (now left) (now right) (now trail) (live .entries) (live .links)) (now nodes) (live .kept)) (now work) (now listed) ⌝ }
-    ensures { λ r. ⌜ ((o : Opened 1024 (state (table (now (parent .entry)) (now (rank .entry)) (now (shape .entry)) (now (kind .entry)) (now (left .entry)) (now (right .entry)) (now (trail .entry)) (live .entries) (live .links)) (now (nodes .entry)) (live .kept))) →
-        (between : List ℕ) × Put (state (table (now (parent .entry)) (now (rank .entry)) (now (shape .entry)) (now (kind .entry)) (now (left .entry)) (now (right .entry)) (now (trail .entry)) (live .entries) (live .links)) (now (nodes .entry)) (live .kept)) o (record-at (now (bytes .entry)) from) (now (listed .entry)) (r .answer)
-        (state (table (now (parent .exit)) (now (rank .exit)) (now (shape .exit)) (now (kind .exit)) (now (left .exit)) (now (right .exit)) (now (trail .exit)) (r .live .entries) (r .live .links)) (now (nodes .exit)) (r .live .kept)) between
+    requires { ⌜ Opened 1024 (state (laid (now parent) (now rank) (now rows) (now trail) (live .entries) (live .links)) (now nodes) (live .kept)) ⌝ }
+    requires { ⌜ (from + 8 ≤ length (now bytes)) × Room (state (laid (now parent) (now rank) (now rows) (now trail) (live .entries) (live .links)) (now nodes) (live .kept)) (now work) (now listed) ⌝ }
+    ensures { λ r. ⌜ ((o : Opened 1024 (state (laid (now (parent .entry)) (now (rank .entry)) (now (rows .entry)) (now (trail .entry)) (live .entries) (live .links)) (now (nodes .entry)) (live .kept))) →
+        (between : List ℕ) × Put (state (laid (now (parent .entry)) (now (rank .entry)) (now (rows .entry)) (now (trail .entry)) (live .entries) (live .links)) (now (nodes .entry)) (live .kept)) o (record-at (now (bytes .entry)) from) (now (listed .entry)) (r .answer)
+        (state (laid (now (parent .exit)) (now (rank .exit)) (now (rows .exit)) (now (trail .exit)) (r .live .entries) (r .live .links)) (now (nodes .exit)) (r .live .kept)) between
         × (now (listed .exit) ≡ settled (getD (now (bytes .entry)) from 0) (r .answer) between)) ⌝ }
 {
     match records::asked(bytes, from) {
         Asks::Offer => state::offer(
             parent,
             rank,
-            shape,
-            kind,
-            left,
-            right,
+            rows,
             trail,
             work,
             nodes,
@@ -61,17 +55,14 @@ fn put(
         Asks::TakeBack => state::take_back(
             parent,
             rank,
-            shape,
-            kind,
-            left,
-            right,
+            rows,
             trail,
             nodes,
             live,
             records::first(bytes, from),
         ),
         Asks::Close => {
-            let answer = state::close(parent, shape, kind, left, right, nodes, work, listed, live);
+            let answer = state::close(parent, rows, nodes, work, listed, live);
             listing::settle(listed, bytes[from], answer);
             Step { answer, live }
         }
@@ -89,10 +80,7 @@ fn put(
 fn put_bytes(
     parent: &mut [u16],
     rank: &mut [u16],
-    shape: &mut [u16],
-    kind: &mut [u16],
-    left: &mut [u16],
-    right: &mut [u16],
+    rows: &mut [u16],
     trail: &mut [u16],
     work: &mut [u16],
     nodes: &mut [u16],
@@ -103,21 +91,18 @@ fn put_bytes(
     to: usize,
     live: Live,
 ) -> Live
-    requires { ⌜ Opened 1024 (state (table (now parent) (now rank) (now shape) (now kind) (now left) (now right) (now trail) (live .entries) (live .links)) (now nodes) (live .kept)) ⌝ }
-    requires { ⌜ Room (state (table (now parent) (now rank) (now shape) (now kind) (now left) (now right) (now trail) (live .entries) (live .links)) (now nodes) (live .kept)) (now work) (now listed) ⌝ }
+    requires { ⌜ Opened 1024 (state (laid (now parent) (now rank) (now rows) (now trail) (live .entries) (live .links)) (now nodes) (live .kept)) ⌝ }
+    requires { ⌜ Room (state (laid (now parent) (now rank) (now rows) (now trail) (live .entries) (live .links)) (now nodes) (live .kept)) (now work) (now listed) ⌝ }
     requires { ⌜ (from + 8 ≤ length (now bytes)) × (to + 8 ≤ length (now answers)) ⌝ }
-    ensures { λ r. ⌜ ((o : Opened 1024 (state (table (now (parent .entry)) (now (rank .entry)) (now (shape .entry)) (now (kind .entry)) (now (left .entry)) (now (right .entry)) (now (trail .entry)) (live .entries) (live .links)) (now (nodes .entry)) (live .kept))) →
-        Recorded (state (table (now (parent .entry)) (now (rank .entry)) (now (shape .entry)) (now (kind .entry)) (now (left .entry)) (now (right .entry)) (now (trail .entry)) (live .entries) (live .links)) (now (nodes .entry)) (live .kept)) o
+    ensures { λ r. ⌜ ((o : Opened 1024 (state (laid (now (parent .entry)) (now (rank .entry)) (now (rows .entry)) (now (trail .entry)) (live .entries) (live .links)) (now (nodes .entry)) (live .kept))) →
+        Recorded (state (laid (now (parent .entry)) (now (rank .entry)) (now (rows .entry)) (now (trail .entry)) (live .entries) (live .links)) (now (nodes .entry)) (live .kept)) o
         (now (bytes .entry)) from (now (listed .entry)) (now (answers .entry)) to
-        (state (table (now (parent .exit)) (now (rank .exit)) (now (shape .exit)) (now (kind .exit)) (now (left .exit)) (now (right .exit)) (now (trail .exit)) (r .entries) (r .links)) (now (nodes .exit)) (r .kept)) (now (listed .exit)) (now (answers .exit))) ⌝ }
+        (state (laid (now (parent .exit)) (now (rank .exit)) (now (rows .exit)) (now (trail .exit)) (r .entries) (r .links)) (now (nodes .exit)) (r .kept)) (now (listed .exit)) (now (answers .exit))) ⌝ }
 {
     let step = put(
         parent,
         rank,
-        shape,
-        kind,
-        left,
-        right,
+        rows,
         trail,
         work,
         nodes,
@@ -135,10 +120,7 @@ fn put_bytes(
 pub fn run(
     parent: &mut [u16],
     rank: &mut [u16],
-    shape: &mut [u16],
-    kind: &mut [u16],
-    left: &mut [u16],
-    right: &mut [u16],
+    rows: &mut [u16],
     trail: &mut [u16],
     work: &mut [u16],
     nodes: &mut [u16],
@@ -149,13 +131,13 @@ pub fn run(
     opened: Live,
     count: usize,
 ) -> Live
-    requires { ⌜ Opened 1024 (state (table (now parent) (now rank) (now shape) (now kind) (now left) (now right) (now trail) (opened .entries) (opened .links)) (now nodes) (opened .kept)) ⌝ }
-    requires { ⌜ Room (state (table (now parent) (now rank) (now shape) (now kind) (now left) (now right) (now trail) (opened .entries) (opened .links)) (now nodes) (opened .kept)) (now work) (now listed) ⌝ }
+    requires { ⌜ Opened 1024 (state (laid (now parent) (now rank) (now rows) (now trail) (opened .entries) (opened .links)) (now nodes) (opened .kept)) ⌝ }
+    requires { ⌜ Room (state (laid (now parent) (now rank) (now rows) (now trail) (opened .entries) (opened .links)) (now nodes) (opened .kept)) (now work) (now listed) ⌝ }
     requires { ⌜ (from + 8 * count ≤ length (now bytes)) × (8 * count ≤ length (now answers)) ⌝ }
-    ensures { λ r. ⌜ ((o : Opened 1024 (state (table (now (parent .entry)) (now (rank .entry)) (now (shape .entry)) (now (kind .entry)) (now (left .entry)) (now (right .entry)) (now (trail .entry)) (opened .entries) (opened .links)) (now (nodes .entry)) (opened .kept))) →
-        (o′ : Opened 1024 (state (table (now (parent .exit)) (now (rank .exit)) (now (shape .exit)) (now (kind .exit)) (now (left .exit)) (now (right .exit)) (now (trail .exit)) (r .entries) (r .links)) (now (nodes .exit)) (r .kept))) ×
-        Puts (now (bytes .entry)) from (state (table (now (parent .entry)) (now (rank .entry)) (now (shape .entry)) (now (kind .entry)) (now (left .entry)) (now (right .entry)) (now (trail .entry)) (opened .entries) (opened .links)) (now (nodes .entry)) (opened .kept)) o (now (listed .entry)) (now (answers .entry)) count
-        (state (table (now (parent .exit)) (now (rank .exit)) (now (shape .exit)) (now (kind .exit)) (now (left .exit)) (now (right .exit)) (now (trail .exit)) (r .entries) (r .links)) (now (nodes .exit)) (r .kept)) o′ (now (listed .exit)) (now (answers .exit))) ⌝ }
+    ensures { λ r. ⌜ ((o : Opened 1024 (state (laid (now (parent .entry)) (now (rank .entry)) (now (rows .entry)) (now (trail .entry)) (opened .entries) (opened .links)) (now (nodes .entry)) (opened .kept))) →
+        (o′ : Opened 1024 (state (laid (now (parent .exit)) (now (rank .exit)) (now (rows .exit)) (now (trail .exit)) (r .entries) (r .links)) (now (nodes .exit)) (r .kept))) ×
+        Puts (now (bytes .entry)) from (state (laid (now (parent .entry)) (now (rank .entry)) (now (rows .entry)) (now (trail .entry)) (opened .entries) (opened .links)) (now (nodes .entry)) (opened .kept)) o (now (listed .entry)) (now (answers .entry)) count
+        (state (laid (now (parent .exit)) (now (rank .exit)) (now (rows .exit)) (now (trail .exit)) (r .entries) (r .links)) (now (nodes .exit)) (r .kept)) o′ (now (listed .exit)) (now (answers .exit))) ⌝ }
 {
     let mut live = opened;
     let mut i: usize = 0;
@@ -163,10 +145,7 @@ pub fn run(
         live = put_bytes(
             parent,
             rank,
-            shape,
-            kind,
-            left,
-            right,
+            rows,
             trail,
             work,
             nodes,

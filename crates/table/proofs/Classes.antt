@@ -6,6 +6,8 @@ use native.Mathlib.Omega.{arith}
 use lib.ListN.{length, replicate, length-replicate}
 use Rattle.classes.specs.Forced.{equal}
 use Rattle.classes.specs.Table.{Table, table, mark}
+use Rattle.classes.specs.Columns.{column, laid}
+use Rattle.classes.proofs.Columns.{column-blank}
 use Rattle.classes.specs.Made.{Within, Made}
 use Rattle.classes.specs.Forest.{Forest}
 use Rattle.classes.specs.Merging.{Verdict, Merges}
@@ -28,6 +30,10 @@ made-forest m = made-good m .forest
 -- room for the pairs still to join, beside an empty table
 pub fresh-room : (n m : ℕ) → 2 * n ≤ m → 2 * length (replicate {A = ℕ} n 0) ≤ length (replicate {A = ℕ} m 0)
 fresh-room n m h = simp length-replicate h
+
+-- arrays of zeros are an empty table
+pub begun-laid : (n m k : ℕ) → n < 2 ^ 16 → m ≡ 4 * n → k ≡ 3 * n → Made (laid (replicate n 0) (replicate n 0) (replicate m 0) (replicate k 0) 0 0)
+begun-laid n m k small em ek = rw (em, ek, column-blank 0 n (omega arith), column-blank 1 n (omega arith), column-blank 2 n (omega arith), column-blank 3 n (omega arith)) (Made.begun n small)
 
 -- adding an entry leads to a made table, and its number fits
 pub added-leads : {t u : Table} {b : Bound} {answer : Added} → Made t → Within (t .entries) b → AddedBy t b answer u → Leads t u

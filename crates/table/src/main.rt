@@ -11,20 +11,14 @@ mod steps;
 fn large() {
     let mut parent = [0u16; 8192];
     let mut rank = [0u16; 8192];
-    let mut shape = [0u16; 8192];
-    let mut kind = [0u16; 8192];
-    let mut left = [0u16; 8192];
-    let mut right = [0u16; 8192];
+    let mut rows = [0u16; 32768];
     let mut trail = [0u16; 24576];
     let mut pending = [0u16; 16384];
     let mut marks = [0u16; 16];
     steps::run(
         &mut parent,
         &mut rank,
-        &mut shape,
-        &mut kind,
-        &mut left,
-        &mut right,
+        &mut rows,
         &mut trail,
         &mut pending,
         &mut marks,
@@ -37,20 +31,14 @@ fn large() {
 fn small() {
     let mut parent = [0u16; 8];
     let mut rank = [0u16; 8];
-    let mut shape = [0u16; 8];
-    let mut kind = [0u16; 8];
-    let mut left = [0u16; 8];
-    let mut right = [0u16; 8];
+    let mut rows = [0u16; 32];
     let mut trail = [0u16; 24];
     let mut pending = [0u16; 16];
     let mut marks = [0u16; 16];
     steps::run(
         &mut parent,
         &mut rank,
-        &mut shape,
-        &mut kind,
-        &mut left,
-        &mut right,
+        &mut rows,
         &mut trail,
         &mut pending,
         &mut marks,

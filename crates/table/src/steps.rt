@@ -14,7 +14,8 @@ ghost use mathlib.Core.Bool.{true};
 ghost use mathlib.Core.List.{List};
 ghost use Prim.Native.Nat.{ℕ, _*_, _≤_, _<_};
 ghost use lib.ListN.{length};
-ghost use Rattle.classes.specs.Table.{Table, table};
+ghost use Rattle.classes.specs.Table.{Table};
+ghost use Rattle.classes.specs.Columns.{laid};
 ghost use Rattle.classes.specs.Made.{Within, Made};
 ghost use Rattle.table.specs.Kept.{Leads, Kept};
 
@@ -59,22 +60,19 @@ fn both_there(entries: u16, a: u16, b: u16) -> bool
 fn enter(
     parent: &mut [u16],
     rank: &mut [u16],
-    shape: &mut [u16],
-    kind: &mut [u16],
-    left: &mut [u16],
-    right: &mut [u16],
+    rows: &mut [u16],
     live: Mark,
     b: Bound,
 ) -> Mark
-    requires { ⌜ ((trail : List ℕ) × Made (table (now parent) (now rank) (now shape) (now kind) (now left) (now right) trail (live .entries) (live .links))) ⌝ }
-    ensures { λ r. ⌜ ((trail : List ℕ) → Made (table (now (parent .entry)) (now (rank .entry)) (now (shape .entry)) (now (kind .entry)) (now (left .entry)) (now (right .entry)) trail (live .entries) (live .links)) → Leads
-        (table (now (parent .entry)) (now (rank .entry)) (now (shape .entry)) (now (kind .entry)) (now (left .entry)) (now (right .entry)) trail (live .entries) (live .links))
-        (table (now (parent .exit)) (now (rank .exit)) (now (shape .exit)) (now (kind .exit)) (now (left .exit)) (now (right .exit)) trail (r .entries) (r .links))) ⌝ }
+    requires { ⌜ ((trail : List ℕ) × Made (laid (now parent) (now rank) (now rows) trail (live .entries) (live .links))) ⌝ }
+    ensures { λ r. ⌜ ((trail : List ℕ) → Made (laid (now (parent .entry)) (now (rank .entry)) (now (rows .entry)) trail (live .entries) (live .links)) → Leads
+        (laid (now (parent .entry)) (now (rank .entry)) (now (rows .entry)) trail (live .entries) (live .links))
+        (laid (now (parent .exit)) (now (rank .exit)) (now (rows .exit)) trail (r .entries) (r .links))) ⌝ }
 {
     if !parts_there(live.entries, b) {
         return live;
     }
-    match context::add(parent, rank, shape, kind, left, right, live, b) {
+    match context::add(parent, rank, rows, live, b) {
         context::Added::Entry(_) => Mark {
             entries: live.entries + 1,
             links: live.links,
@@ -87,21 +85,18 @@ fn enter(
 fn join_or_undo(
     parent: &mut [u16],
     rank: &mut [u16],
-    shape: &mut [u16],
-    kind: &mut [u16],
-    left: &mut [u16],
-    right: &mut [u16],
+    rows: &mut [u16],
     trail: &mut [u16],
     pending: &mut [u16],
     live: Mark,
     a: u16,
     b: u16,
 ) -> After
-    requires { ⌜ Made (table (now parent) (now rank) (now shape) (now kind) (now left) (now right) (now trail) (live .entries) (live .links)) ⌝ }
+    requires { ⌜ Made (laid (now parent) (now rank) (now rows) (now trail) (live .entries) (live .links)) ⌝ }
     requires { ⌜ 2 * length (now parent) ≤ length (now pending) ⌝ }
     ensures { λ r. ⌜ Leads
-        (table (now (parent .entry)) (now (rank .entry)) (now (shape .entry)) (now (kind .entry)) (now (left .entry)) (now (right .entry)) (now (trail .entry)) (live .entries) (live .links))
-        (table (now (parent .exit)) (now (rank .exit)) (now (shape .exit)) (now (kind .exit)) (now (left .exit)) (now (right .exit)) (now (trail .exit)) (r .live .entries) (r .live .links)) ⌝ }
+        (laid (now (parent .entry)) (now (rank .entry)) (now (rows .entry)) (now (trail .entry)) (live .entries) (live .links))
+        (laid (now (parent .exit)) (now (rank .exit)) (now (rows .exit)) (now (trail .exit)) (r .live .entries) (r .live .links)) ⌝ }
 {
     if !both_there(live.entries, a, b) {
         return After {
@@ -112,10 +107,7 @@ fn join_or_undo(
     match context::join(
         parent,
         rank,
-        shape,
-        kind,
-        left,
-        right,
+        rows,
         trail,
         pending,
         live,
@@ -134,7 +126,7 @@ fn join_or_undo(
                 entries: live.entries,
                 links: live.links + n,
             };
-            undo::undo(parent, rank, shape, kind, left, right, trail, clashed, live);
+            undo::undo(parent, rank, rows, trail, clashed, live);
             After {
                 live: live,
                 verdict: Verdict::Clash(n),
@@ -147,35 +139,29 @@ fn join_or_undo(
 fn grow(
     parent: &mut [u16],
     rank: &mut [u16],
-    shape: &mut [u16],
-    kind: &mut [u16],
-    left: &mut [u16],
-    right: &mut [u16],
+    rows: &mut [u16],
     trail: &mut [u16],
     pending: &mut [u16],
     live: Mark,
     star: bool,
     many: u16,
 ) -> Mark
-    requires { ⌜ Made (table (now parent) (now rank) (now shape) (now kind) (now left) (now right) (now trail) (live .entries) (live .links)) ⌝ }
+    requires { ⌜ Made (laid (now parent) (now rank) (now rows) (now trail) (live .entries) (live .links)) ⌝ }
     requires { ⌜ 2 * length (now parent) ≤ length (now pending) ⌝ }
     ensures { λ r. ⌜ Leads
-        (table (now (parent .entry)) (now (rank .entry)) (now (shape .entry)) (now (kind .entry)) (now (left .entry)) (now (right .entry)) (now (trail .entry)) (live .entries) (live .links))
-        (table (now (parent .exit)) (now (rank .exit)) (now (shape .exit)) (now (kind .exit)) (now (left .exit)) (now (right .exit)) (now (trail .exit)) (r .entries) (r .links)) ⌝ }
+        (laid (now (parent .entry)) (now (rank .entry)) (now (rows .entry)) (now (trail .entry)) (live .entries) (live .links))
+        (laid (now (parent .exit)) (now (rank .exit)) (now (rows .exit)) (now (trail .exit)) (r .entries) (r .links)) ⌝ }
 {
     let mut then = live;
     let mut other = live.entries;
     let mut made: u16 = 0;
     while made < many {
         let new = then.entries;
-        then = enter(parent, rank, shape, kind, left, right, then, Bound::Free);
+        then = enter(parent, rank, rows, then, Bound::Free);
         let after = join_or_undo(
             parent,
             rank,
-            shape,
-            kind,
-            left,
-            right,
+            rows,
             trail,
             pending,
             then,
@@ -194,21 +180,18 @@ fn grow(
 // Prints what an entry's class shows, and its root.
 fn show(
     parent: &[u16],
-    shape: &[u16],
-    kind: &[u16],
-    left: &[u16],
-    right: &[u16],
+    rows: &[u16],
     live: Mark,
     a: u16,
 )
-    requires { ⌜ ((rank : List ℕ) × ((trail : List ℕ) × Made (table (now parent) rank (now shape) (now kind) (now left) (now right) trail (live .entries) (live .links)))) ⌝ }
+    requires { ⌜ ((rank : List ℕ) × ((trail : List ℕ) × Made (laid (now parent) rank (now rows) trail (live .entries) (live .links)))) ⌝ }
 {
     if live.entries <= a {
         say::missing(a);
         return;
     }
     let root = union_bound::root(parent, a);
-    let shown = context::shown(parent, shape, kind, left, right, a);
+    let shown = context::shown(parent, rows, a);
     say::class(a, root, shown);
 }
 
@@ -237,18 +220,15 @@ fn take_mark(marks: &mut [u16], live: Mark, taken: u16) -> u16
 fn back_to(
     parent: &mut [u16],
     rank: &mut [u16],
-    shape: &mut [u16],
-    kind: &mut [u16],
-    left: &mut [u16],
-    right: &mut [u16],
+    rows: &mut [u16],
     trail: &mut [u16],
     marks: &[u16],
     live: Mark,
     taken: u16,
     n: u16,
 ) -> State
-    requires { ⌜ Kept (now marks) taken (table (now parent) (now rank) (now shape) (now kind) (now left) (now right) (now trail) (live .entries) (live .links)) ⌝ }
-    ensures { λ r. ⌜ Kept (now (marks .entry)) (r .taken) (table (now (parent .exit)) (now (rank .exit)) (now (shape .exit)) (now (kind .exit)) (now (left .exit)) (now (right .exit)) (now (trail .exit)) (r .live .entries) (r .live .links)) ⌝ }
+    requires { ⌜ Kept (now marks) taken (laid (now parent) (now rank) (now rows) (now trail) (live .entries) (live .links)) ⌝ }
+    ensures { λ r. ⌜ Kept (now (marks .entry)) (r .taken) (laid (now (parent .exit)) (now (rank .exit)) (now (rows .exit)) (now (trail .exit)) (r .live .entries) (r .live .links)) ⌝ }
 {
     if taken <= n {
         say::no_mark(n);
@@ -262,7 +242,7 @@ fn back_to(
         entries: marks[at],
         links: marks[at + 1],
     };
-    undo::undo(parent, rank, shape, kind, left, right, trail, live, to);
+    undo::undo(parent, rank, rows, trail, live, to);
     say::back(n, to);
     State {
         live: to,
@@ -281,19 +261,16 @@ fn is_star(form: Form) -> bool {
 fn step(
     parent: &mut [u16],
     rank: &mut [u16],
-    shape: &mut [u16],
-    kind: &mut [u16],
-    left: &mut [u16],
-    right: &mut [u16],
+    rows: &mut [u16],
     trail: &mut [u16],
     pending: &mut [u16],
     marks: &mut [u16],
     s: State,
     order: Order,
 ) -> State
-    requires { ⌜ Kept (now marks) (s .taken) (table (now parent) (now rank) (now shape) (now kind) (now left) (now right) (now trail) (s .live .entries) (s .live .links)) ⌝ }
+    requires { ⌜ Kept (now marks) (s .taken) (laid (now parent) (now rank) (now rows) (now trail) (s .live .entries) (s .live .links)) ⌝ }
     requires { ⌜ 2 * length (now parent) ≤ length (now pending) ⌝ }
-    ensures { λ r. ⌜ Kept (now (marks .exit)) (r .taken) (table (now (parent .exit)) (now (rank .exit)) (now (shape .exit)) (now (kind .exit)) (now (left .exit)) (now (right .exit)) (now (trail .exit)) (r .live .entries) (r .live .links)) ⌝ }
+    ensures { λ r. ⌜ Kept (now (marks .exit)) (r .taken) (laid (now (parent .exit)) (now (rank .exit)) (now (rows .exit)) (now (trail .exit)) (r .live .entries) (r .live .links)) ⌝ }
 {
     let live = s.live;
     let taken = s.taken;
@@ -303,7 +280,7 @@ fn step(
             s
         }
         Order::Add(b) => {
-            let then = enter(parent, rank, shape, kind, left, right, live, b);
+            let then = enter(parent, rank, rows, live, b);
             say::added(b, live.entries, parts_there(live.entries, b), then);
             State {
                 live: then,
@@ -314,10 +291,7 @@ fn step(
             let after = join_or_undo(
                 parent,
                 rank,
-                shape,
-                kind,
-                left,
-                right,
+                rows,
                 trail,
                 pending,
                 live,
@@ -333,7 +307,7 @@ fn step(
             }
         }
         Order::Show(a) => {
-            show(parent, shape, kind, left, right, live, a);
+            show(parent, rows, live, a);
             s
         }
         Order::Take => {
@@ -346,10 +320,7 @@ fn step(
         Order::Back(n) => back_to(
             parent,
             rank,
-            shape,
-            kind,
-            left,
-            right,
+            rows,
             trail,
             marks,
             live,
@@ -360,10 +331,7 @@ fn step(
             let then = grow(
                 parent,
                 rank,
-                shape,
-                kind,
-                left,
-                right,
+                rows,
                 trail,
                 pending,
                 live,
@@ -383,17 +351,14 @@ fn step(
 pub(super) fn run(
     parent: &mut [u16],
     rank: &mut [u16],
-    shape: &mut [u16],
-    kind: &mut [u16],
-    left: &mut [u16],
-    right: &mut [u16],
+    rows: &mut [u16],
     trail: &mut [u16],
     pending: &mut [u16],
     marks: &mut [u16],
     first: u16,
     end: u16,
 )
-    requires { ⌜ Made (table (now parent) (now rank) (now shape) (now kind) (now left) (now right) (now trail) 0 0) ⌝ }
+    requires { ⌜ Made (laid (now parent) (now rank) (now rows) (now trail) 0 0) ⌝ }
     requires { ⌜ 2 * length (now parent) ≤ length (now pending) ⌝ }
 {
     let mut s = State {
@@ -405,10 +370,7 @@ pub(super) fn run(
         s = step(
             parent,
             rank,
-            shape,
-            kind,
-            left,
-            right,
+            rows,
             trail,
             pending,
             marks,

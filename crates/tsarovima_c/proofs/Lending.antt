@@ -6,7 +6,8 @@ use native.Mathlib.Nat.{le-antisymm}
 use native.Mathlib.Omega.{arith}
 use lib.ListN.{length, set, replicate, length-replicate}
 use lib.Seq.{drop-length}
-use Rattle.classes.specs.Table.{table, fresh}
+use Rattle.classes.specs.Table.{fresh}
+use Rattle.classes.specs.Columns.{laid}
 use Rattle.nodes.specs.Layout.{standing}
 use Rattle.closing.proofs.Beginning.{Clearing}
 use Rattle.combinators.specs.Entered.{entered}
@@ -30,22 +31,22 @@ three (a ∷ b ∷ []) e l k h = absurd (omega (arith, h))
 three (a ∷ b ∷ c ∷ d ∷ v) e l k h = absurd (omega (arith, h))
 
 -- cleared tables that were opened are a fresh state
-fresh-opened : (rows links numbers : ℕ) {p r s k l q t n : List ℕ} {e j kept : ℕ} → 33 + 8 * 1024 ≤ rows → rows < 2 ^ 16 → links ≡ 3 * rows → numbers ≡ 7 * 1024 → kept ≡ 0 →
-    table p r s k l q (replicate (3 * rows) 0) e j ≡ entered (fresh rows) standing → t ≡ replicate links 0 → n ≡ replicate numbers 0 →
-    (o : Opened 1024 (state (table p r s k l q t e j) n kept)) × (o .nodes ≡ [])
-fresh-opened rows links numbers {p} {r} {s} {k} {l} {q} {t} {n} {e} {j} {kept} wide small hl hn none is et en =
-    subst₂ (λ (x y : List ℕ). (o : Opened 1024 (state (table p r s k l q x e j) y kept)) × (o .nodes ≡ []))
+fresh-opened : (rows links numbers : ℕ) (q : List ℕ) {p r t n : List ℕ} {e j kept : ℕ} → 33 + 8 * 1024 ≤ rows → rows < 2 ^ 16 → links ≡ 3 * rows → numbers ≡ 7 * 1024 → kept ≡ 0 →
+    laid p r q (replicate (3 * rows) 0) e j ≡ entered (fresh rows) standing → t ≡ replicate links 0 → n ≡ replicate numbers 0 →
+    (o : Opened 1024 (state (laid p r q t e j) n kept)) × (o .nodes ≡ [])
+fresh-opened rows links numbers q {p} {r} {t} {n} {e} {j} {kept} wide small hl hn none is et en =
+    subst₂ (λ (x y : List ℕ). (o : Opened 1024 (state (laid p r q x e j) y kept)) × (o .nodes ≡ []))
     (sym (et ∙ ap (λ (m : ℕ). replicate m 0) hl)) (sym (en ∙ ap (λ (m : ℕ). replicate m 0) hn))
     (opened-first 1024 rows wide small none is)
 
-pub opened-by : {p₀ r₀ s₀ k₀ l₀ q₀ t₀ n₀ v₀ p₁ p r s k l q t n : List ℕ} {e j kept : ℕ} → Sized (tables p₀ r₀ s₀ k₀ l₀ q₀ t₀ n₀ v₀) → p₁ ≡ replicate (length p₀) 0 → kept ≡ 0 →
-    table p r s k l q (replicate (3 * length p₁) 0) e j ≡ entered (fresh (length p₁)) standing → t ≡ replicate (length t₀) 0 → n ≡ replicate (length n₀) 0 →
-    OpenedBy (tables p₀ r₀ s₀ k₀ l₀ q₀ t₀ n₀ v₀) 0 (tables p r s k l q t n (set (set (set v₀ 0 e) 1 j) 2 kept))
-opened-by {p₀} {r₀} {s₀} {k₀} {l₀} {q₀} {t₀} {n₀} {v₀} {p₁} {p} {r} {s} {k} {l} {q} {t} {n} {e} {j} {kept} sized clear none is et en =
+pub opened-by : {p₀ r₀ q₀ t₀ n₀ v₀ p₁ p r q t n : List ℕ} {e j kept : ℕ} → Sized (tables p₀ r₀ q₀ t₀ n₀ v₀) → p₁ ≡ replicate (length p₀) 0 → kept ≡ 0 →
+    laid p r q (replicate (3 * length p₁) 0) e j ≡ entered (fresh (length p₁)) standing → t ≡ replicate (length t₀) 0 → n ≡ replicate (length n₀) 0 →
+    OpenedBy (tables p₀ r₀ q₀ t₀ n₀ v₀) 0 (tables p r q t n (set (set (set v₀ 0 e) 1 j) 2 kept))
+opened-by {p₀} {r₀} {q₀} {t₀} {n₀} {v₀} {p₁} {p} {r} {q} {t} {n} {e} {j} {kept} sized clear none is et en =
     let rows = sized .parent in
     let long : length p₁ ≡ length p₀ = ap length clear ∙ length-replicate (length p₀) 0 in
-    let (o, nothing) = fresh-opened (length p₁) (length t₀) (length n₀) (omega (arith, long, rows)) (omega (arith, long, rows)) (omega (arith, long, rows, sized .trail)) (sized .nodes) none is et en in
-    subst (λ (v : List ℕ). OpenedBy (tables p₀ r₀ s₀ k₀ l₀ q₀ t₀ n₀ v₀) 0 (tables p r s k l q t n v)) (sym (three v₀ e j kept (sized .live)))
+    let (o, nothing) = fresh-opened (length p₁) (length t₀) (length n₀) q (omega (arith, long, rows)) (omega (arith, long, rows)) (omega (arith, long, rows, sized .trail)) (sized .nodes) none is et en in
+    subst (λ (v : List ℕ). OpenedBy (tables p₀ r₀ q₀ t₀ n₀ v₀) 0 (tables p r q t n v)) (sym (three v₀ e j kept (sized .live)))
     (OpenedBy.done sized o nothing)
 
 -- one record put after none is one record put
@@ -54,10 +55,10 @@ only-one : {bytes listed answers listed′ answers′ : List ℕ} {s s′ : Stat
 only-one (Puts.more Puts.none x) = x
 
 -- a record put, and the counts stored
-pub recorded-by : {p₀ r₀ s₀ k₀ l₀ q₀ t₀ n₀ v₀ p r s k l q t n work bytes listing listing′ answer answer′ : List ℕ} {o : Opened 1024 (state-of (tables p₀ r₀ s₀ k₀ l₀ q₀ t₀ n₀ v₀))} {e j kept : ℕ} →
-    Long (tables p₀ r₀ s₀ k₀ l₀ q₀ t₀ n₀ v₀) work listing bytes answer →
-    (o′ : Opened 1024 (state (table p r s k l q t e j) n kept)) × Puts bytes 0 (state-of (tables p₀ r₀ s₀ k₀ l₀ q₀ t₀ n₀ v₀)) o listing answer 1 (state (table p r s k l q t e j) n kept) o′ listing′ answer′ →
-    RecordedBy (tables p₀ r₀ s₀ k₀ l₀ q₀ t₀ n₀ v₀) o work bytes listing answer 0 (tables p r s k l q t n (set (set (set v₀ 0 e) 1 j) 2 kept)) listing′ answer′
-recorded-by {p₀} {r₀} {s₀} {k₀} {l₀} {q₀} {t₀} {n₀} {v₀} {p} {r} {s} {k} {l} {q} {t} {n} {work} {bytes} {listing} {listing′} {answer} {answer′} {o} {e} {j} {kept} long (o′, puts) =
-    subst (λ (v : List ℕ). RecordedBy (tables p₀ r₀ s₀ k₀ l₀ q₀ t₀ n₀ v₀) o work bytes listing answer 0 (tables p r s k l q t n v) listing′ answer′) (sym (three v₀ e j kept (long .1)))
+pub recorded-by : {p₀ r₀ q₀ t₀ n₀ v₀ p r q t n work bytes listing listing′ answer answer′ : List ℕ} {o : Opened 1024 (state-of (tables p₀ r₀ q₀ t₀ n₀ v₀))} {e j kept : ℕ} →
+    Long (tables p₀ r₀ q₀ t₀ n₀ v₀) work listing bytes answer →
+    (o′ : Opened 1024 (state (laid p r q t e j) n kept)) × Puts bytes 0 (state-of (tables p₀ r₀ q₀ t₀ n₀ v₀)) o listing answer 1 (state (laid p r q t e j) n kept) o′ listing′ answer′ →
+    RecordedBy (tables p₀ r₀ q₀ t₀ n₀ v₀) o work bytes listing answer 0 (tables p r q t n (set (set (set v₀ 0 e) 1 j) 2 kept)) listing′ answer′
+recorded-by {p₀} {r₀} {q₀} {t₀} {n₀} {v₀} {p} {r} {q} {t} {n} {work} {bytes} {listing} {listing′} {answer} {answer′} {o} {e} {j} {kept} long (o′, puts) =
+    subst (λ (v : List ℕ). RecordedBy (tables p₀ r₀ q₀ t₀ n₀ v₀) o work bytes listing answer 0 (tables p r q t n v) listing′ answer′) (sym (three v₀ e j kept (long .1)))
     (RecordedBy.done long (only-one puts))

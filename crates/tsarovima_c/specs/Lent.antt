@@ -3,7 +3,7 @@ use mathlib.Core.Path.{_≡_}
 use mathlib.Core.List.{List, [], _∷_}
 use Prim.Native.Nat.{ℕ, _≤_}
 use lib.ListN.{length, getD}
-use Rattle.classes.specs.Table.{table}
+use Rattle.classes.specs.Columns.{laid}
 use Rattle.types.specs.States.{State, state, Opened}
 use Rattle.jobs.specs.Putting.{Recorded}
 
@@ -11,30 +11,23 @@ use Rattle.jobs.specs.Putting.{Recorded}
 pub record Tables : Type 0 where
   pub parent : List ℕ
   pub rank : List ℕ
-  pub shape : List ℕ
-  pub kind : List ℕ
-  pub left : List ℕ
-  pub right : List ℕ
+  pub rows : List ℕ
   pub trail : List ℕ
   pub nodes : List ℕ
   pub live : List ℕ
 
-abbrev pub tables : List ℕ → List ℕ → List ℕ → List ℕ → List ℕ → List ℕ → List ℕ → List ℕ → List ℕ → Tables
-tables p r s k l q t n v =
-    record { parent = p; rank = r; shape = s; kind = k; left = l; right = q; trail = t; nodes = n; live = v }
+abbrev pub tables : List ℕ → List ℕ → List ℕ → List ℕ → List ℕ → List ℕ → Tables
+tables p r q t n v = record { parent = p; rank = r; rows = q; trail = t; nodes = n; live = v }
 
 abbrev pub state-of : Tables → State
 state-of x =
-    state (table (x .parent) (x .rank) (x .shape) (x .kind) (x .left) (x .right) (x .trail) (getD (x .live) 0 0) (getD (x .live) 1 0)) (x .nodes) (getD (x .live) 2 0)
+    state (laid (x .parent) (x .rank) (x .rows) (x .trail) (getD (x .live) 0 0) (getD (x .live) 1 0)) (x .nodes) (getD (x .live) 2 0)
 
 -- as long as 1,024 nodes need
 pub record Sized (x : Tables) : Type 0 where
   pub parent : length (x .parent) ≡ 8225
   pub rank : length (x .rank) ≡ 8225
-  pub shape : length (x .shape) ≡ 8225
-  pub kind : length (x .kind) ≡ 8225
-  pub left : length (x .left) ≡ 8225
-  pub right : length (x .right) ≡ 8225
+  pub rows : length (x .rows) ≡ 32900
   pub trail : length (x .trail) ≡ 24675
   pub nodes : length (x .nodes) ≡ 7168
   pub live : length (x .live) ≡ 3

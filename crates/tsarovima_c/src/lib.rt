@@ -10,6 +10,7 @@ use jobs::run;
 use types::limits::ENTRIES;
 use types::limits::LISTING;
 use types::limits::NODES;
+use types::limits::ROWS;
 use types::limits::TRAIL;
 use types::limits::WORK;
 use types::state;
@@ -54,16 +55,13 @@ fn clear(table: &mut [u16])
 pub extern "C" fn tsarovima_open(
     parent: &mut [u16],
     rank: &mut [u16],
-    shape: &mut [u16],
-    kind: &mut [u16],
-    left: &mut [u16],
-    right: &mut [u16],
+    rows: &mut [u16],
     trail: &mut [u16],
     nodes: &mut [u16],
     live: &mut [u16],
 ) -> u32
-    ensures { λ r. ⌜ OpenedBy (tables (now (parent .entry)) (now (rank .entry)) (now (shape .entry)) (now (kind .entry)) (now (left .entry)) (now (right .entry)) (now (trail .entry)) (now (nodes .entry)) (now (live .entry))) r
-        (tables (now (parent .exit)) (now (rank .exit)) (now (shape .exit)) (now (kind .exit)) (now (left .exit)) (now (right .exit)) (now (trail .exit)) (now (nodes .exit)) (now (live .exit))) ⌝ }
+    ensures { λ r. ⌜ OpenedBy (tables (now (parent .entry)) (now (rank .entry)) (now (rows .entry)) (now (trail .entry)) (now (nodes .entry)) (now (live .entry))) r
+        (tables (now (parent .exit)) (now (rank .exit)) (now (rows .exit)) (now (trail .exit)) (now (nodes .exit)) (now (live .exit))) ⌝ }
 {
     if parent.len() != ENTRIES {
         return WRONG_LENGTH;
@@ -71,16 +69,7 @@ pub extern "C" fn tsarovima_open(
     if rank.len() != ENTRIES {
         return WRONG_LENGTH;
     }
-    if shape.len() != ENTRIES {
-        return WRONG_LENGTH;
-    }
-    if kind.len() != ENTRIES {
-        return WRONG_LENGTH;
-    }
-    if left.len() != ENTRIES {
-        return WRONG_LENGTH;
-    }
-    if right.len() != ENTRIES {
+    if rows.len() != ROWS {
         return WRONG_LENGTH;
     }
     if trail.len() != TRAIL {
@@ -94,13 +83,10 @@ pub extern "C" fn tsarovima_open(
     }
     clear(parent);
     clear(rank);
-    clear(shape);
-    clear(kind);
-    clear(left);
-    clear(right);
+    clear(rows);
     clear(trail);
     clear(nodes);
-    let opened = state::open(parent, rank, shape, kind, left, right);
+    let opened = state::open(parent, rank, rows);
     live[0] = opened.entries;
     live[1] = opened.links;
     live[2] = opened.kept;
@@ -144,10 +130,7 @@ fn wrong_length(
 pub extern "C" fn tsarovima_record(
     parent: &mut [u16],
     rank: &mut [u16],
-    shape: &mut [u16],
-    kind: &mut [u16],
-    left: &mut [u16],
-    right: &mut [u16],
+    rows: &mut [u16],
     trail: &mut [u16],
     nodes: &mut [u16],
     live: &mut [u16],
@@ -156,11 +139,11 @@ pub extern "C" fn tsarovima_record(
     answer: &mut [u8],
     listing: &mut [u16],
 ) -> u32
-    requires { ⌜ Opened 1024 (state-of (tables (now parent) (now rank) (now shape) (now kind) (now left) (now right) (now trail) (now nodes) (now live))) ⌝ }
-    ensures { λ r. ⌜ ((o : Opened 1024 (state-of (tables (now (parent .entry)) (now (rank .entry)) (now (shape .entry)) (now (kind .entry)) (now (left .entry)) (now (right .entry)) (now (trail .entry)) (now (nodes .entry)) (now (live .entry))))) →
-        RecordedBy (tables (now (parent .entry)) (now (rank .entry)) (now (shape .entry)) (now (kind .entry)) (now (left .entry)) (now (right .entry)) (now (trail .entry)) (now (nodes .entry)) (now (live .entry))) o
+    requires { ⌜ Opened 1024 (state-of (tables (now parent) (now rank) (now rows) (now trail) (now nodes) (now live))) ⌝ }
+    ensures { λ r. ⌜ ((o : Opened 1024 (state-of (tables (now (parent .entry)) (now (rank .entry)) (now (rows .entry)) (now (trail .entry)) (now (nodes .entry)) (now (live .entry))))) →
+        RecordedBy (tables (now (parent .entry)) (now (rank .entry)) (now (rows .entry)) (now (trail .entry)) (now (nodes .entry)) (now (live .entry))) o
         (now (work .entry)) (now (bytes .entry)) (now (listing .entry)) (now (answer .entry)) r
-        (tables (now (parent .exit)) (now (rank .exit)) (now (shape .exit)) (now (kind .exit)) (now (left .exit)) (now (right .exit)) (now (trail .exit)) (now (nodes .exit)) (now (live .exit)))
+        (tables (now (parent .exit)) (now (rank .exit)) (now (rows .exit)) (now (trail .exit)) (now (nodes .exit)) (now (live .exit)))
         (now (listing .exit)) (now (answer .exit))) ⌝ }
 {
     if wrong_length(
@@ -179,10 +162,7 @@ pub extern "C" fn tsarovima_record(
     let then = run::run(
         parent,
         rank,
-        shape,
-        kind,
-        left,
-        right,
+        rows,
         trail,
         work,
         nodes,
@@ -208,10 +188,7 @@ pub extern "C" fn tsarovima_record(
 pub extern "C" fn tsarovima_close(
     parent: &mut [u16],
     rank: &mut [u16],
-    shape: &mut [u16],
-    kind: &mut [u16],
-    left: &mut [u16],
-    right: &mut [u16],
+    rows: &mut [u16],
     trail: &mut [u16],
     nodes: &mut [u16],
     live: &mut [u16],
@@ -219,21 +196,18 @@ pub extern "C" fn tsarovima_close(
     answer: &mut [u8],
     listing: &mut [u16],
 ) -> u32
-    requires { ⌜ Opened 1024 (state-of (tables (now parent) (now rank) (now shape) (now kind) (now left) (now right) (now trail) (now nodes) (now live))) ⌝ }
-    ensures { λ r. ⌜ ((o : Opened 1024 (state-of (tables (now (parent .entry)) (now (rank .entry)) (now (shape .entry)) (now (kind .entry)) (now (left .entry)) (now (right .entry)) (now (trail .entry)) (now (nodes .entry)) (now (live .entry))))) →
-        RecordedBy (tables (now (parent .entry)) (now (rank .entry)) (now (shape .entry)) (now (kind .entry)) (now (left .entry)) (now (right .entry)) (now (trail .entry)) (now (nodes .entry)) (now (live .entry))) o
+    requires { ⌜ Opened 1024 (state-of (tables (now parent) (now rank) (now rows) (now trail) (now nodes) (now live))) ⌝ }
+    ensures { λ r. ⌜ ((o : Opened 1024 (state-of (tables (now (parent .entry)) (now (rank .entry)) (now (rows .entry)) (now (trail .entry)) (now (nodes .entry)) (now (live .entry))))) →
+        RecordedBy (tables (now (parent .entry)) (now (rank .entry)) (now (rows .entry)) (now (trail .entry)) (now (nodes .entry)) (now (live .entry))) o
         (now (work .entry)) closing-bytes (now (listing .entry)) (now (answer .entry)) r
-        (tables (now (parent .exit)) (now (rank .exit)) (now (shape .exit)) (now (kind .exit)) (now (left .exit)) (now (right .exit)) (now (trail .exit)) (now (nodes .exit)) (now (live .exit)))
+        (tables (now (parent .exit)) (now (rank .exit)) (now (rows .exit)) (now (trail .exit)) (now (nodes .exit)) (now (live .exit)))
         (now (listing .exit)) (now (answer .exit))) ⌝ }
 {
     let bytes = [65, 0, 0, 0, 0, 0, 0, 0];
     tsarovima_record(
         parent,
         rank,
-        shape,
-        kind,
-        left,
-        right,
+        rows,
         trail,
         nodes,
         live,

@@ -9,7 +9,8 @@ use native.Mathlib.Omega.{arith}
 use lib.ListN.{length, getD, drop}
 use lib.Seq.{drop-cons, drop-length}
 use Rattle.classes.specs.Forced.{equal}
-use Rattle.classes.specs.Table.{Table, table, limit}
+use Rattle.classes.specs.Table.{Table, limit}
+use Rattle.classes.specs.Columns.{laid}
 use Rattle.classes.specs.Merging.{Verdict, Merges}
 use Rattle.classes.specs.Merging.Verdict.{fits, clash}
 use Rattle.classes.specs.Made.{Made}
@@ -114,9 +115,9 @@ joins-end {rs = rs} {t = t} {i = i} j all =
     j .meets (subst (λ (l : List Numbered). Meets t l t) (sym (ap (λ (n : ℕ). drop n rs) end ∙ drop-length rs)) done)
 
 -- a join's table, with the links as the code counts them
-pub merges-as : (t : Table) (p r s trail : List ℕ) {a b n : ℕ} {answer j : Joined} →
-    Merges t (equal a b ∷ []) (verdict answer) (table p r s (t .kind) (t .left) (t .right) trail (t .entries) (t .links + made-links answer)) → n ≡ made-links answer → answer ≡ j →
-    Merges t (equal a b ∷ []) (verdict j) (table p r s (t .kind) (t .left) (t .right) trail (t .entries) (t .links + n))
-merges-as t p r s trail {a} {b} {n} {answer} {j} m made is =
-    subst (λ (x : Joined). Merges t (equal a b ∷ []) (verdict x) (table p r s (t .kind) (t .left) (t .right) trail (t .entries) (t .links + n))) is
-    (subst (λ (k : ℕ). Merges t (equal a b ∷ []) (verdict answer) (table p r s (t .kind) (t .left) (t .right) trail (t .entries) (t .links + k))) (sym made) m)
+pub merges-as : (t : Table) (p r rows trail : List ℕ) {a b n : ℕ} {answer j : Joined} →
+    Merges t (equal a b ∷ []) (verdict answer) (laid p r rows trail (t .entries) (t .links + made-links answer)) → n ≡ made-links answer → answer ≡ j →
+    Merges t (equal a b ∷ []) (verdict j) (laid p r rows trail (t .entries) (t .links + n))
+merges-as t p r rows trail {a} {b} {n} {answer} {j} m made is =
+    subst (λ (x : Joined). Merges t (equal a b ∷ []) (verdict x) (laid p r rows trail (t .entries) (t .links + n))) is
+    (subst (λ (k : ℕ). Merges t (equal a b ∷ []) (verdict answer) (laid p r rows trail (t .entries) (t .links + k))) (sym made) m)

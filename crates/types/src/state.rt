@@ -1,6 +1,6 @@
 // The state and what offers and take-backs do to it.
 //
-// The core works on lent tables, always in this order: the class table's parent, rank, shape, kind, left, right, trail and
+// The core works on lent tables, always in this order: the class table's parent, rank, rows (four numbers an entry), trail and
 // pending, then nodes: a row of seven numbers for each node kept (kind, a, b, source, target, and the entries and links before
 // it). The live counts go in and out by value. How many nodes there is room for is the number of rows of `nodes`.
 
@@ -18,7 +18,6 @@ use closing::listing::SOURCE;
 use closing::listing::TARGET;
 use nodes::Coded;
 use nodes::Kind;
-use nodes::arrow;
 use nodes::arrow::Adds;
 use nodes::arrow::Arrow;
 use nodes::arrow::Rule;
@@ -28,6 +27,7 @@ ghost use mathlib.Core.List.{List};
 ghost use Prim.Native.Nat.{ℕ, _+_, _*_, _^_, _≤_, _<_};
 ghost use lib.ListN.{length, getD, replicate};
 ghost use Rattle.classes.specs.Table.{table, fresh};
+ghost use Rattle.classes.specs.Columns.{laid};
 ghost use Rattle.classes.specs.Promises.{made-links};
 ghost use Rattle.classes.specs.declared.Bound.the-variants.{Free};
 ghost use Rattle.nodes.specs.Layout.{children, standing, Proper};
@@ -209,10 +209,7 @@ fn links_made(j: Joined) -> u16
 fn meet(
     parent: &mut [u16],
     rank: &mut [u16],
-    shape: &mut [u16],
-    kind: &[u16],
-    left: &[u16],
-    right: &[u16],
+    rows: &mut [u16],
     trail: &mut [u16],
     pending: &mut [u16],
     live: Mark,
@@ -220,12 +217,12 @@ fn meet(
     count: u16,
     first: Rule,
 ) -> Met
-    requires { ⌜ Meetable (table (now parent) (now rank) (now shape) (now kind) (now left) (now right) (now trail) (live .entries) (live .links)) (now pending) (meant row .needs) ⌝ }
-    requires { ⌜ Countable row × Left (table (now parent) (now rank) (now shape) (now kind) (now left) (now right) (now trail) (live .entries) (live .links)) (meant row .needs) count (meant-rule first) ⌝ }
+    requires { ⌜ Meetable (laid (now parent) (now rank) (now rows) (now trail) (live .entries) (live .links)) (now pending) (meant row .needs) ⌝ }
+    requires { ⌜ Countable row × Left (laid (now parent) (now rank) (now rows) (now trail) (live .entries) (live .links)) (meant row .needs) count (meant-rule first) ⌝ }
     ensures { λ r. ⌜ Meeting
-        (table (now (parent .entry)) (now (rank .entry)) (now (shape .entry)) (now (kind .entry)) (now (left .entry)) (now (right .entry)) (now (trail .entry)) (live .entries) (live .links))
+        (laid (now (parent .entry)) (now (rank .entry)) (now (rows .entry)) (now (trail .entry)) (live .entries) (live .links))
         (meant row .needs) r
-        (table (now (parent .exit)) (now (rank .exit)) (now (shape .exit)) (now (kind .entry)) (now (left .entry)) (now (right .entry)) (now (trail .exit)) (live .entries) (met-links r)) ⌝ }
+        (laid (now (parent .exit)) (now (rank .exit)) (now (rows .exit)) (now (trail .exit)) (live .entries) (met-links r)) ⌝ }
 {
     let entries = live.entries;
     let mut links = live.links;
@@ -239,10 +236,7 @@ fn meet(
         let joined = context::join(
             parent,
             rank,
-            shape,
-            kind,
-            left,
-            right,
+            rows,
             trail,
             pending,
             now,
@@ -258,7 +252,7 @@ fn meet(
         if count <= i {
             return Met::All(links);
         }
-        r = arrow::rule_at(row, i);
+        r = combinators::rule_at(row, i);
     }
 }
 
@@ -266,21 +260,18 @@ fn meet(
 pub fn offer(
     parent: &mut [u16],
     rank: &mut [u16],
-    shape: &mut [u16],
-    kind: &mut [u16],
-    left: &mut [u16],
-    right: &mut [u16],
+    rows: &mut [u16],
     trail: &mut [u16],
     pending: &mut [u16],
     nodes: &mut [u16],
     live: Live,
     n: Coded,
 ) -> Step
-    requires { ⌜ ((most : ℕ) × Opened most (state (table (now parent) (now rank) (now shape) (now kind) (now left) (now right) (now trail) (live .entries) (live .links)) (now nodes) (live .kept))) ⌝ }
+    requires { ⌜ ((most : ℕ) × Opened most (state (laid (now parent) (now rank) (now rows) (now trail) (live .entries) (live .links)) (now nodes) (live .kept))) ⌝ }
     requires { ⌜ Regular n × Proper (node-of n) × (2 * length (now parent) ≤ length (now pending)) ⌝ }
-    ensures { λ r. ⌜ ((most : ℕ) (o : Opened most (state (table (now (parent .entry)) (now (rank .entry)) (now (shape .entry)) (now (kind .entry)) (now (left .entry)) (now (right .entry)) (now (trail .entry)) (live .entries) (live .links)) (now (nodes .entry)) (live .kept))) →
-        Called most (state (table (now (parent .entry)) (now (rank .entry)) (now (shape .entry)) (now (kind .entry)) (now (left .entry)) (now (right .entry)) (now (trail .entry)) (live .entries) (live .links)) (now (nodes .entry)) (live .kept)) o (Offer (node-of n)) (r .answer)
-        (state (table (now (parent .exit)) (now (rank .exit)) (now (shape .exit)) (now (kind .exit)) (now (left .exit)) (now (right .exit)) (now (trail .exit)) (r .live .entries) (r .live .links)) (now (nodes .exit)) (r .live .kept))) ⌝ }
+    ensures { λ r. ⌜ ((most : ℕ) (o : Opened most (state (laid (now (parent .entry)) (now (rank .entry)) (now (rows .entry)) (now (trail .entry)) (live .entries) (live .links)) (now (nodes .entry)) (live .kept))) →
+        Called most (state (laid (now (parent .entry)) (now (rank .entry)) (now (rows .entry)) (now (trail .entry)) (live .entries) (live .links)) (now (nodes .entry)) (live .kept)) o (Offer (node-of n)) (r .answer)
+        (state (laid (now (parent .exit)) (now (rank .exit)) (now (rows .exit)) (now (trail .exit)) (r .live .entries) (r .live .links)) (now (nodes .exit)) (r .live .kept))) ⌝ }
 {
     let kept = live.kept;
     if nodes.len() <= NODE * (kept as usize) {
@@ -307,7 +298,7 @@ pub fn offer(
         t,
         e: live.entries,
     };
-    let entered = combinators::enter(parent, rank, shape, kind, left, right, live.links, row);
+    let entered = combinators::enter(parent, rank, rows, live.links, row);
     let entries = entered.entries;
     let links = live.links;
     let now = Mark { entries, links };
@@ -316,10 +307,7 @@ pub fn offer(
     match meet(
         parent,
         rank,
-        shape,
-        kind,
-        left,
-        right,
+        rows,
         trail,
         pending,
         now,
@@ -331,10 +319,7 @@ pub fn offer(
             undo::undo(
                 parent,
                 rank,
-                shape,
-                kind,
-                left,
-                right,
+                rows,
                 trail,
                 Mark { entries, links: l },
                 before,
@@ -362,19 +347,16 @@ pub fn offer(
 pub fn take_back(
     parent: &mut [u16],
     rank: &mut [u16],
-    shape: &mut [u16],
-    kind: &mut [u16],
-    left: &mut [u16],
-    right: &mut [u16],
+    rows: &mut [u16],
     trail: &mut [u16],
     nodes: &mut [u16],
     live: Live,
     to: u16,
 ) -> Step
-    requires { ⌜ ((most : ℕ) × Opened most (state (table (now parent) (now rank) (now shape) (now kind) (now left) (now right) (now trail) (live .entries) (live .links)) (now nodes) (live .kept))) ⌝ }
-    ensures { λ r. ⌜ ((most : ℕ) (o : Opened most (state (table (now (parent .entry)) (now (rank .entry)) (now (shape .entry)) (now (kind .entry)) (now (left .entry)) (now (right .entry)) (now (trail .entry)) (live .entries) (live .links)) (now (nodes .entry)) (live .kept))) →
-        Called most (state (table (now (parent .entry)) (now (rank .entry)) (now (shape .entry)) (now (kind .entry)) (now (left .entry)) (now (right .entry)) (now (trail .entry)) (live .entries) (live .links)) (now (nodes .entry)) (live .kept)) o (TakeBack to) (r .answer)
-        (state (table (now (parent .exit)) (now (rank .exit)) (now (shape .exit)) (now (kind .exit)) (now (left .exit)) (now (right .exit)) (now (trail .exit)) (r .live .entries) (r .live .links)) (now (nodes .exit)) (r .live .kept))) ⌝ }
+    requires { ⌜ ((most : ℕ) × Opened most (state (laid (now parent) (now rank) (now rows) (now trail) (live .entries) (live .links)) (now nodes) (live .kept))) ⌝ }
+    ensures { λ r. ⌜ ((most : ℕ) (o : Opened most (state (laid (now (parent .entry)) (now (rank .entry)) (now (rows .entry)) (now (trail .entry)) (live .entries) (live .links)) (now (nodes .entry)) (live .kept))) →
+        Called most (state (laid (now (parent .entry)) (now (rank .entry)) (now (rows .entry)) (now (trail .entry)) (live .entries) (live .links)) (now (nodes .entry)) (live .kept)) o (TakeBack to) (r .answer)
+        (state (laid (now (parent .exit)) (now (rank .exit)) (now (rows .exit)) (now (trail .exit)) (r .live .entries) (r .live .links)) (now (nodes .exit)) (r .live .kept))) ⌝ }
 {
     let kept = live.kept;
     if kept < to {
@@ -399,10 +381,7 @@ pub fn take_back(
     undo::undo(
         parent,
         rank,
-        shape,
-        kind,
-        left,
-        right,
+        rows,
         trail,
         now,
         Mark { entries, links },
@@ -421,27 +400,21 @@ pub fn take_back(
 // Closes: the listing is written into `listed`, and no table changes. Working memory: four numbers for each entry.
 pub fn close(
     parent: &[u16],
-    shape: &[u16],
-    kind: &[u16],
-    left: &[u16],
-    right: &[u16],
+    rows: &[u16],
     nodes: &[u16],
     work: &mut [u16],
     listed: &mut [u16],
     live: Live,
 ) -> Answer
-    requires { ⌜ ((most : ℕ) × (rank trail : List ℕ) × Opened most (state (table (now parent) rank (now shape) (now kind) (now left) (now right) trail (live .entries) (live .links)) (now nodes) (live .kept))) ⌝ }
+    requires { ⌜ ((most : ℕ) × (rank trail : List ℕ) × Opened most (state (laid (now parent) rank (now rows) trail (live .entries) (live .links)) (now nodes) (live .kept))) ⌝ }
     requires { ⌜ (4 + 3 * live .entries < 2 ^ 16) × (4 * live .entries ≤ length (now work)) × (4 + 3 * live .entries + 2 * live .kept ≤ length (now listed)) ⌝ }
-    ensures { λ r. ⌜ ((most : ℕ) (rank trail : List ℕ) (o : Opened most (state (table (now (parent .entry)) rank (now (shape .entry)) (now (kind .entry)) (now (left .entry)) (now (right .entry)) trail (live .entries) (live .links)) (now (nodes .entry)) (live .kept))) →
+    ensures { λ r. ⌜ ((most : ℕ) (rank trail : List ℕ) (o : Opened most (state (laid (now (parent .entry)) rank (now (rows .entry)) trail (live .entries) (live .links)) (now (nodes .entry)) (live .kept))) →
         Closes most (o .nodes) (now (listed .entry)) r (now (listed .exit))) ⌝ }
 {
     let kept = live.kept;
     match listing::close(
         parent,
-        shape,
-        kind,
-        left,
-        right,
+        rows,
         nodes,
         work,
         listed,
@@ -457,15 +430,11 @@ pub fn close(
 pub fn open(
     parent: &mut [u16],
     rank: &mut [u16],
-    shape: &mut [u16],
-    kind: &mut [u16],
-    left: &mut [u16],
-    right: &mut [u16],
+    rows: &mut [u16],
 ) -> Live
-    requires { ⌜ ((rows : ℕ) × (33 ≤ rows) × (rows < 2 ^ 16)
-        × (now parent ≡ replicate rows 0) × (now rank ≡ replicate rows 0) × (now shape ≡ replicate rows 0)
-        × (now kind ≡ replicate rows 0) × (now left ≡ replicate rows 0) × (now right ≡ replicate rows 0)) ⌝ }
-    ensures { λ r. ⌜ (r .kept ≡ 0) × (table (now (parent .exit)) (now (rank .exit)) (now (shape .exit)) (now (kind .exit)) (now (left .exit)) (now (right .exit)) (replicate (3 * length (now (parent .entry))) 0) (r .entries) (r .links)
+    requires { ⌜ ((n : ℕ) × (33 ≤ n) × (n < 2 ^ 16)
+        × (now parent ≡ replicate n 0) × (now rank ≡ replicate n 0) × (now rows ≡ replicate (4 * n) 0)) ⌝ }
+    ensures { λ r. ⌜ (r .kept ≡ 0) × (laid (now (parent .exit)) (now (rank .exit)) (now (rows .exit)) (replicate (3 * length (now (parent .entry))) 0) (r .entries) (r .links)
         ≡ entered (fresh (length (now (parent .entry)))) standing) ⌝ }
 {
     let mut i = 0;
@@ -477,10 +446,7 @@ pub fn open(
         let Added::Entry(_) = context::add(
             parent,
             rank,
-            shape,
-            kind,
-            left,
-            right,
+            rows,
             now,
             standing_bound(i),
         ) else {

@@ -39,18 +39,9 @@ slice-aggregate-close-4 c = search needs
 slice-aggregate-close-5 : tie.Need-slice-aggregate-close-5
 slice-aggregate-close-5 c = search needs
 
-slice-aggregate-close-6 : tie.Need-slice-aggregate-close-6
-slice-aggregate-close-6 c = search needs
-
-slice-aggregate-close-7 : tie.Need-slice-aggregate-close-7
-slice-aggregate-close-7 c = search needs
-
-slice-aggregate-close-8 : tie.Need-slice-aggregate-close-8
-slice-aggregate-close-8 c = search needs
-
 close-requires : tie.Need-close-requires
 close-requires c κs =
-    let o = c .before .before .before .before .before .before .before .before .before .before .before .before .before .before .before .pre in
+    let o = c .before .before .before .before .before .before .before .before .before .pre in
     ((1024, _, _, o), array-room o 32900 26727 (omega arith) (omega arith))
 
 enum-told : tie.Need-enum-told
@@ -81,9 +72,6 @@ close-spec =
     slice-aggregate-close-3
     slice-aggregate-close-4
     slice-aggregate-close-5
-    slice-aggregate-close-6
-    slice-aggregate-close-7
-    slice-aggregate-close-8
     close-requires
     enum-told
     slice-aggregate-no-listing

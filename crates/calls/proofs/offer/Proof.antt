@@ -33,15 +33,6 @@ slice-aggregate-offer-5 c = search needs
 slice-aggregate-offer-6 : tie.Need-slice-aggregate-offer-6
 slice-aggregate-offer-6 c = search needs
 
-slice-aggregate-offer-7 : tie.Need-slice-aggregate-offer-7
-slice-aggregate-offer-7 c = search needs
-
-slice-aggregate-offer-8 : tie.Need-slice-aggregate-offer-8
-slice-aggregate-offer-8 c = search needs
-
-slice-aggregate-offer-9 : tie.Need-slice-aggregate-offer-9
-slice-aggregate-offer-9 c = search needs
-
 -- past the check
 proper : (c : tie.Else1) → Proper (c .before .before .args .n)
 proper c = omega (arith, c .if1 .left, c .before .word-of .ensures)
@@ -51,14 +42,14 @@ coded-requires c κs = search needs
 
 offer-requires : tie.Need-offer-requires
 offer-requires c κs =
-    let past = c .before .before .before .before .before .before .before .before .before .before .before .before .before .before .before .before .before .before .before in
+    let past = c .before .before .before .before .before .before .before .before .before .before .before .before .before in
     let start = past .before .before in (
       (1024, start .pre),
-      (c .coded .ensures .1, subst Proper (sym (c .coded .ensures .0)) (proper past), pending-wide (start .args .s .parent) 8225 16450 (slice-aggregate-offer (c .before .before .before .before .before .before .before .before .before)) (omega arith)),
+      (c .coded .ensures .1, subst Proper (sym (c .coded .ensures .0)) (proper past), pending-wide (start .args .s .parent) 8225 16450 (slice-aggregate-offer (c .before .before .before .before .before .before)) (omega arith)),
     )
 
 returns-2 : tie.Need-returns-2
-returns-2 c = let call = c .before .before .before .before .before .before .before .before .before .before in λ o. same-offer (call .before .coded .ensures .0) (call .offer .ensures 1024 o)
+returns-2 c = let call = c .before .before .before .before .before .before .before in λ o. same-offer (call .before .coded .ensures .0) (call .offer .ensures 1024 o)
 
 pub offer-spec : {M : Type 1} → statement M
 offer-spec =
@@ -72,9 +63,6 @@ offer-spec =
     slice-aggregate-offer-4
     slice-aggregate-offer-5
     slice-aggregate-offer-6
-    slice-aggregate-offer-7
-    slice-aggregate-offer-8
-    slice-aggregate-offer-9
     coded-requires
     offer-requires
     returns-2)

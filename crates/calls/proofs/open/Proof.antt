@@ -15,21 +15,12 @@ slice-aggregate-open-2 c = search needs
 slice-aggregate-open-3 : tie.Need-slice-aggregate-open-3
 slice-aggregate-open-3 c = search needs
 
-slice-aggregate-open-4 : tie.Need-slice-aggregate-open-4
-slice-aggregate-open-4 c = search needs
-
-slice-aggregate-open-5 : tie.Need-slice-aggregate-open-5
-slice-aggregate-open-5 c = search needs
-
-slice-aggregate-open-6 : tie.Need-slice-aggregate-open-6
-slice-aggregate-open-6 c = search needs
-
 open-requires : tie.Need-open-requires
-open-requires c κs = (8225, omega arith, omega arith, refl, refl, refl, refl, refl, refl)
+open-requires c κs = (8225, omega arith, omega arith, refl, refl, refl)
 
 returns : tie.Need-returns
 returns c =
-    let o = c .before .before .before .before .before .before .open in
+    let o = c .before .before .before .open in
     opened-first 1024 8225 (omega arith) (omega arith) (o .ensures .0) (o .ensures .1)
 
 pub open-spec : {M : Type 1} → statement M
@@ -39,8 +30,5 @@ open-spec =
     slice-aggregate-open
     slice-aggregate-open-2
     slice-aggregate-open-3
-    slice-aggregate-open-4
-    slice-aggregate-open-5
-    slice-aggregate-open-6
     open-requires
     returns)

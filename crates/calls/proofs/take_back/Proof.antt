@@ -18,20 +18,11 @@ slice-aggregate-take-back-4 c = search needs
 slice-aggregate-take-back-5 : tie.Need-slice-aggregate-take-back-5
 slice-aggregate-take-back-5 c = search needs
 
-slice-aggregate-take-back-6 : tie.Need-slice-aggregate-take-back-6
-slice-aggregate-take-back-6 c = search needs
-
-slice-aggregate-take-back-7 : tie.Need-slice-aggregate-take-back-7
-slice-aggregate-take-back-7 c = search needs
-
-slice-aggregate-take-back-8 : tie.Need-slice-aggregate-take-back-8
-slice-aggregate-take-back-8 c = search needs
-
 take-back-requires : tie.Need-take-back-requires
 take-back-requires c κs = search needs
 
 returns : tie.Need-returns
-returns c = λ o. c .before .before .before .before .before .before .before .before .before .take-back .ensures 1024 o
+returns c = λ o. c .before .before .before .before .before .before .take-back .ensures 1024 o
 
 pub take-back-spec : {M : Type 1} → statement M
 take-back-spec =
@@ -42,8 +33,5 @@ take-back-spec =
     slice-aggregate-take-back-3
     slice-aggregate-take-back-4
     slice-aggregate-take-back-5
-    slice-aggregate-take-back-6
-    slice-aggregate-take-back-7
-    slice-aggregate-take-back-8
     take-back-requires
     returns)

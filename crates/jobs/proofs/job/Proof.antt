@@ -30,7 +30,7 @@ not-done keys e =
 
 -- in the other arm the job can be run
 abbrev told : tie.After-run-arg → tie.After-enum-told
-told c = c .before .before .before .before .before .before .before .before .before .before .before .before .before .before .before .before .before .before .before .before .before .before .before .before .before .before .before
+told c = c .before .before .before .before .before .before .before .before .before .before .before .before .before .before .before .before .before .before
 
 done-at : (c : tie.After-enum-told) → judged (c .before .before .before .before .before .before .args .job .now) (length (c .before .before .before .before .before .before .args .answers .now)) (length (c .before .before .before .before .before .before .args .listing .now)) ≡ Done
 done-at c = sym (c .before .before .judge .ensures) ∙ c .enum-told .given .1
@@ -56,17 +56,8 @@ slice-aggregate-open-2 c = search needs
 slice-aggregate-open-3 : tie.Need-slice-aggregate-open-3
 slice-aggregate-open-3 c = search needs
 
-slice-aggregate-open-4 : tie.Need-slice-aggregate-open-4
-slice-aggregate-open-4 c = search needs
-
-slice-aggregate-open-5 : tie.Need-slice-aggregate-open-5
-slice-aggregate-open-5 c = search needs
-
-slice-aggregate-open-6 : tie.Need-slice-aggregate-open-6
-slice-aggregate-open-6 c = search needs
-
 open-requires : tie.Need-open-requires
-open-requires c κs = (8225, omega arith, omega arith, refl, refl, refl, refl, refl, refl)
+open-requires c κs = (8225, omega arith, omega arith, refl, refl, refl)
 
 slice-aggregate-clear : tie.Need-slice-aggregate-clear
 slice-aggregate-clear c = search needs
@@ -95,22 +86,13 @@ slice-aggregate-run-6 c = search needs
 slice-aggregate-run-7 : tie.Need-slice-aggregate-run-7
 slice-aggregate-run-7 c = search needs
 
-slice-aggregate-run-8 : tie.Need-slice-aggregate-run-8
-slice-aggregate-run-8 c = search needs
-
-slice-aggregate-run-9 : tie.Need-slice-aggregate-run-9
-slice-aggregate-run-9 c = search needs
-
-slice-aggregate-run-10 : tie.Need-slice-aggregate-run-10
-slice-aggregate-run-10 c = search needs
-
 sub-run : tie.Need-sub-run
 sub-run c = omega (arith, ready-at (told c) .long)
 
 run-requires : tie.Need-run-requires
 run-requires c κs =
-    let opens = c .before .before .before .before .before .before .before .before .before .before .before .before .before .before .before .before .before .before .before .before .open in
-    let clear = c .before .before .before .before .before .before .before .before .before .before .before .before .clear in
+    let opens = c .before .before .before .before .before .before .before .before .before .before .before .before .before .before .open in
+    let clear = c .before .before .before .before .before .before .before .before .before .clear in
     let ready = ready-at (told c) in (
       opened-first 1024 8225 (omega arith) (omega arith) (opens .ensures .0) (opens .ensures .1) .0,
       (
@@ -128,11 +110,11 @@ slice-aggregate-show c = search needs
 
 show-requires : tie.Need-show-requires
 show-requires c κs =
-    let run = c .before .before .before .before .before .before .before .before .before .before .before .before .before .before in
-    let opens = run .before .before .before .before .before .before .before .before .before .before .before .before .before .before .before .before .before .before .before .before .before .open in
-    let clear = run .before .before .before .before .before .before .before .before .before .before .before .before .before .clear in
+    let run = c .before .before .before .before .before .before .before .before .before .before .before in
+    let opens = run .before .before .before .before .before .before .before .before .before .before .before .before .before .before .before .open in
+    let clear = run .before .before .before .before .before .before .before .before .before .before .clear in
     let (kept, r) = ran (opened-first 1024 8225 (omega arith) (omega arith) (opens .ensures .0) (opens .ensures .1)) (clear .ensures) (run .run .ensures) in
-    can-be-shown r (run .run .kept .1 .1 .1 .1 .1 .1 .1 .1 .1 .0 ∙ clear .kept .0 ∙ length-replicate {A = ℕ} 26727 0) (ready-at (told (run .before)) .numbers)
+    can-be-shown r (run .run .kept .1 .1 .1 .1 .1 .1 .0 ∙ clear .kept .0 ∙ length-replicate {A = ℕ} 26727 0) (ready-at (told (run .before)) .numbers)
 
 same-length : tie.Need-same-length
 same-length c = search needs
@@ -142,10 +124,10 @@ same-length-2 c = search needs
 
 returns-2 : tie.Need-returns-2
 returns-2 c =
-    let run = c .before .before .before .before .before .before .before .before .before .before .before .before .before .before .before .before .before in
+    let run = c .before .before .before .before .before .before .before .before .before .before .before .before .before .before in
     let at = told (run .before) in
-    let opens = run .before .before .before .before .before .before .before .before .before .before .before .before .before .before .before .before .before .before .before .before .before .open in
-    let clear = run .before .before .before .before .before .before .before .before .before .before .before .before .before .clear in
+    let opens = run .before .before .before .before .before .before .before .before .before .before .before .before .before .before .before .open in
+    let clear = run .before .before .before .before .before .before .before .before .before .before .clear in
     let (kept, r) = ran (opened-first 1024 8225 (omega arith) (omega arith) (opens .ensures .0) (opens .ensures .1)) (clear .ensures) (run .run .ensures) in
     finished r (done-at at) (omega (arith, ready-at at .long)) (c .before .before .show .ensures)
 
@@ -159,9 +141,6 @@ job-spec =
     slice-aggregate-open
     slice-aggregate-open-2
     slice-aggregate-open-3
-    slice-aggregate-open-4
-    slice-aggregate-open-5
-    slice-aggregate-open-6
     open-requires
     slice-aggregate-clear
     clear-requires
@@ -172,9 +151,6 @@ job-spec =
     slice-aggregate-run-5
     slice-aggregate-run-6
     slice-aggregate-run-7
-    slice-aggregate-run-8
-    slice-aggregate-run-9
-    slice-aggregate-run-10
     sub-run
     run-requires
     slice-aggregate-show

@@ -1,7 +1,6 @@
 -- `table::small` meets its contract: arrays of zeros are an empty table.
 use native.Mathlib.Omega.{arith}
-use Rattle.classes.specs.Made.{Made}
-use Rattle.table.proofs.Classes.{fresh-room}
+use Rattle.table.proofs.Classes.{fresh-room, begun-laid}
 use borrow.Author.Needs.{needs}
 use Rattle.table.proofs.small.Statement.{statement}
 use Rattle.table.proofs.small.Tie as tie
@@ -24,17 +23,8 @@ slice-aggregate-run-5 c = search needs
 slice-aggregate-run-6 : tie.Need-slice-aggregate-run-6
 slice-aggregate-run-6 c = search needs
 
-slice-aggregate-run-7 : tie.Need-slice-aggregate-run-7
-slice-aggregate-run-7 c = search needs
-
-slice-aggregate-run-8 : tie.Need-slice-aggregate-run-8
-slice-aggregate-run-8 c = search needs
-
-slice-aggregate-run-9 : tie.Need-slice-aggregate-run-9
-slice-aggregate-run-9 c = search needs
-
 run-requires : tie.Need-run-requires
-run-requires c κs = (Made.begun 8 (omega arith), fresh-room 8 16 (omega arith))
+run-requires c κs = (begun-laid 8 32 24 (omega arith) (omega arith) (omega arith), fresh-room 8 16 (omega arith))
 
 returns : tie.Need-returns
 returns c = search needs
@@ -49,8 +39,5 @@ small-spec =
     slice-aggregate-run-4
     slice-aggregate-run-5
     slice-aggregate-run-6
-    slice-aggregate-run-7
-    slice-aggregate-run-8
-    slice-aggregate-run-9
     run-requires
     returns)

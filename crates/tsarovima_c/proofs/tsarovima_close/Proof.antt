@@ -7,7 +7,7 @@ slice-aggregate-tsarovima-record : tie.Need-slice-aggregate-tsarovima-record
 slice-aggregate-tsarovima-record c = search needs
 
 tsarovima-record-requires : tie.Need-tsarovima-record-requires
-tsarovima-record-requires c κs = c .before .before .before .before .before .before .before .before .before .before .before .before .before .before .before .before .before .before .before .before .before .before .before .before .before .pre
+tsarovima-record-requires c κs = c .before .before .before .before .before .before .before .before .before .before .before .before .before .before .before .before .before .before .before .pre
 
 same-length : tie.Need-same-length
 same-length c = search needs
@@ -36,17 +36,8 @@ same-length-8 c = search needs
 same-length-9 : tie.Need-same-length-9
 same-length-9 c = search needs
 
-same-length-10 : tie.Need-same-length-10
-same-length-10 c = search needs
-
-same-length-11 : tie.Need-same-length-11
-same-length-11 c = search needs
-
-same-length-12 : tie.Need-same-length-12
-same-length-12 c = search needs
-
 returns : tie.Need-returns
-returns c = λ o. c .before .before .before .before .before .before .before .before .before .before .before .before .before .before .before .before .before .before .before .before .before .before .before .before .tsarovima-record .ensures o
+returns c = λ o. c .before .before .before .before .before .before .before .before .before .before .before .before .before .before .before .before .before .before .tsarovima-record .ensures o
 
 pub tsarovima-close-spec : {M : Type 1} → statement M
 tsarovima-close-spec =
@@ -63,7 +54,4 @@ tsarovima-close-spec =
     same-length-7
     same-length-8
     same-length-9
-    same-length-10
-    same-length-11
-    same-length-12
     returns)

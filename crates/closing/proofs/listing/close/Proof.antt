@@ -3,8 +3,9 @@ use mathlib.Core.Path.{_≡_, sym, _∙_, subst}
 use mathlib.Core.List.{List, []}
 use Prim.Native.Nat.{ℕ}
 use native.Mathlib.Omega.{arith}
+use Rattle.classes.specs.Columns.{laid}
 use Rattle.classes.specs.Forced.{Rule}
-use Rattle.classes.specs.Table.{Table, table}
+use Rattle.classes.specs.Table.{Table}
 use Rattle.classes.specs.Made.{Stands}
 use Rattle.closing.specs.Closings.ClosedBy.{endless}
 use Rattle.closing.specs.Visiting.{Settled}
@@ -18,14 +19,14 @@ use Rattle.closing.proofs.listing.close.Statement.{statement}
 use Rattle.closing.proofs.listing.close.Tie as tie
 
 abbrev start : tie.After-clear → tie.Start
-start c = c .before .before .before .before .before .before .before .before .before .before
+start c = c .before .before .before .before .before .before .before
 
 -- the tables as they are read, and the memory cleared
 module _ (c : tie.After-clear) where
   abbrev lent : List ℕ → List ℕ → ℕ → Table
   lent rank trail links =
       let a = start c .args in
-      table (a .parent .now) rank (a .shape .now) (a .kind .now) (a .left .now) (a .right .now) trail (a .entries) links
+      laid (a .parent .now) rank (a .rows .now) trail (a .entries) links
 
   settled : (rank trail : List ℕ) (links : ℕ) (rules : List Rule) → Settled (lent rank trail links) rules (c .clear .last .0) (start c .args .listing .now) 0 []
   settled rank trail links rules =
@@ -43,13 +44,13 @@ module _ (c : tie.After-visit-all) where
   args-of = start begun
 
   left : {rank trail : List ℕ} {links : ℕ} {rules : List Rule} → Stands (lent begun rank trail links) rules → (r : Closing) → c .visit-all .result ≡ r →
-      AllBy (lent begun rank trail links) rules (args-of .args .nodes .now) (args-of .args .listing .now) (args-of .args .kept) r (c .visit-all .last .1 .1 .1 .1 .1 .1 .0) (c .visit-all .last .1 .1 .1 .1 .1 .1 .1 .0)
+      AllBy (lent begun rank trail links) rules (args-of .args .nodes .now) (args-of .args .listing .now) (args-of .args .kept) r (c .visit-all .last .1 .1 .1 .0) (c .visit-all .last .1 .1 .1 .1 .0)
   left {rank} {trail} {links} {rules} s r is =
-      subst (λ (x : Closing). AllBy (lent begun rank trail links) rules (args-of .args .nodes .now) (args-of .args .listing .now) (args-of .args .kept) x (c .visit-all .last .1 .1 .1 .1 .1 .1 .0) (c .visit-all .last .1 .1 .1 .1 .1 .1 .1 .0)) is
+      subst (λ (x : Closing). AllBy (lent begun rank trail links) rules (args-of .args .nodes .now) (args-of .args .listing .now) (args-of .args .kept) x (c .visit-all .last .1 .1 .1 .0) (c .visit-all .last .1 .1 .1 .1 .0)) is
       (c .visit-all .ensures rank trail links rules s (settled begun rank trail links rules))
 
 clear-requires : tie.Need-clear-requires
-clear-requires c κs = c .before .before .before .before .before .before .before .before .before .pre .1 .work-room
+clear-requires c κs = c .before .before .before .before .before .before .pre .1 .work-room
 
 visit-all-requires : tie.Need-visit-all-requires
 visit-all-requires c κs =
@@ -79,14 +80,14 @@ write-requires c κs =
     let s = pre .0 .4 in
     let g = left call s (Types _) (c .before .before .before .count .given .1) in (
       λ i h. (numberable s (g .settled) _ (pre .1 .sources i h) (g .numbered i h .0), numberable s (g .settled) _ (pre .1 .targets i h) (g .numbered i h .1)),
-      (pre .1 .rows, omega (arith, g .settled .types .chains .few, pre .1 .listing-room, call .visit-all .kept .1 .1 .1 .1 .1 .1 .1 .0), omega (arith, g .settled .types .chains .few, pre .1 .small)),
+      (pre .1 .rows, omega (arith, g .settled .types .chains .few, pre .1 .listing-room, call .visit-all .kept .1 .1 .1 .1 .0), omega (arith, g .settled .types .chains .few, pre .1 .small)),
     )
 
 same-length : tie.Need-same-length
-same-length c = c .before .before .before .before .before .before .before .visit-all .kept .1 .1 .1 .1 .1 .1 .0 ∙ c .before .before .before .before .before .before .before .before .before .before .before .before .clear .kept .0
+same-length c = c .before .before .before .before .before .before .before .visit-all .kept .1 .1 .1 .0 ∙ c .before .before .before .before .before .before .before .before .before .before .before .before .clear .kept .0
 
 same-length-2 : tie.Need-same-length-2
-same-length-2 c = c .before .before .before .before .before .before .before .visit-all .kept .1 .1 .1 .1 .1 .1 .1 .0
+same-length-2 c = c .before .before .before .before .before .before .before .visit-all .kept .1 .1 .1 .1 .0
 
 returns : tie.Need-returns
 returns c =
@@ -95,10 +96,10 @@ returns c =
     endless (l .0) (l .1 .1) (l .2)
 
 same-length-3 : tie.Need-same-length-3
-same-length-3 c = c .before .before .before .before .before .before .before .before .before .before .before .before .visit-all .kept .1 .1 .1 .1 .1 .1 .0 ∙ c .before .before .before .before .before .before .before .before .before .before .before .before .before .before .before .before .before .clear .kept .0
+same-length-3 c = c .before .before .before .before .before .before .before .before .before .before .before .before .visit-all .kept .1 .1 .1 .0 ∙ c .before .before .before .before .before .before .before .before .before .before .before .before .before .before .before .before .before .clear .kept .0
 
 same-length-4 : tie.Need-same-length-4
-same-length-4 c = c .before .before .write .kept .1 .1 .1 .0 ∙ c .before .before .before .before .before .before .before .before .before .before .before .before .visit-all .kept .1 .1 .1 .1 .1 .1 .1 .0
+same-length-4 c = c .before .before .write .kept .1 .1 .1 .0 ∙ c .before .before .before .before .before .before .before .before .before .before .before .before .visit-all .kept .1 .1 .1 .1 .0
 
 returns-2 : tie.Need-returns-2
 returns-2 c =
@@ -106,7 +107,7 @@ returns-2 c =
     let call = c .before .before .before .before .before .before .before .before .before .before .before .before in
     let room = args-of call .pre .1 in
     let g = left call s (Types _) (c .before .before .before .before .before .before .count .given .1) in
-    let same = call .visit-all .kept .1 .1 .1 .1 .1 .1 .1 .0 in
+    let same = call .visit-all .kept .1 .1 .1 .1 .0 in
     let whole = whole-listing s g (room .sources) (room .targets) (c .before .before .write .ensures) (c .before .before .write .kept .1 .1 .1 .0 ∙ same) (omega (arith, room .listing-room, g .settled .types .chains .few)) in
     closed-types (g .typed) (g .settled .types .counted) whole
 

@@ -4,8 +4,9 @@ use mathlib.Core.List.{List, []}
 use Prim.Native.Nat.{ℕ, _+_, _-_, _^_, _≤_, _<_}
 use native.Mathlib.Omega.{arith}
 use lib.ListN.{length}
+use Rattle.classes.specs.Columns.{laid}
 use Rattle.classes.specs.Forced.{Rule}
-use Rattle.classes.specs.Table.{Table, table}
+use Rattle.classes.specs.Table.{Table}
 use Rattle.classes.specs.Made.{Stands}
 use Rattle.typing.specs.Types.{Ty}
 use Rattle.closing.specs.Closings.{source-at, target-at}
@@ -19,18 +20,18 @@ use Rattle.closing.proofs.listing.visit_all.Statement.{statement}
 use Rattle.closing.proofs.listing.visit_all.Tie as tie
 
 abbrev Inv-loop : tie.InvT-loop
-Inv-loop parent shape kind left right nodes work₀ listing₀ entries kept i₀ count₀ work listing i count =
+Inv-loop parent rows nodes work₀ listing₀ entries kept i₀ count₀ work listing i count =
     ((i ≤ kept) × (length work ≡ length work₀) × (length listing ≡ length listing₀))
     × ((rank trail : List ℕ) (links : ℕ) (rules : List Rule) →
-    Stands (table parent rank shape kind left right trail entries links) rules →
-    Settled (table parent rank shape kind left right trail entries links) rules work₀ listing₀ 0 [] →
-    Through (table parent rank shape kind left right trail entries links) rules nodes listing₀ i work listing count)
+    Stands (laid parent rank rows trail entries links) rules →
+    Settled (laid parent rank rows trail entries links) rules work₀ listing₀ 0 [] →
+    Through (laid parent rank rows trail entries links) rules nodes listing₀ i work listing count)
 
 abbrev μ-loop : tie.MeasureT-loop
-μ-loop parent shape kind left right nodes work₀ listing₀ entries kept i₀ count₀ work listing i count = kept - i
+μ-loop parent rows nodes work₀ listing₀ entries kept i₀ count₀ work listing i count = kept - i
 
 abbrev begun : tie.At-loop Inv-loop μ-loop → tie.Start Inv-loop μ-loop
-begun c = c .before .before .before .before .before .before .before .before .before
+begun c = c .before .before .before .before .before .before
 
 low : (c : tie.In-loop Inv-loop μ-loop) → c .before .loop .i + 1 < 2 ^ 16
 low c = omega (arith, c .loop-test .taken, begun (c .before) .fits .kept .fits)
@@ -38,7 +39,7 @@ low c = omega (arith, c .loop-test .taken, begun (c .before) .fits .kept .fits)
 abbrev lent : tie.At-loop Inv-loop μ-loop → List ℕ → List ℕ → ℕ → Table
 lent c rank trail links =
     let a = begun c .args in
-    table (a .parent .now) rank (a .shape .now) (a .kind .now) (a .left .now) (a .right .now) trail (a .entries) links
+    laid (a .parent .now) rank (a .rows .now) trail (a .entries) links
 
 -- what a node's visit leaves, by its answer
 module _ (c : tie.After-visit-arrow Inv-loop μ-loop) where
@@ -48,7 +49,7 @@ module _ (c : tie.After-visit-arrow Inv-loop μ-loop) where
   abbrev Left : List ℕ → List ℕ → ℕ → List Rule → List Ty → Visited → Type 0
   Left rank trail links rules ts r =
       ArrowBy (lent head rank trail links) rules (head .loop .work) (head .loop .listing) (head .loop .count) ts
-      (source-at (begun head .args .nodes .now) (head .loop .i)) (target-at (begun head .args .nodes .now) (head .loop .i)) r (c .visit-arrow .last .1 .1 .1 .1 .1 .0) (c .visit-arrow .last .1 .1 .1 .1 .1 .1 .0)
+      (source-at (begun head .args .nodes .now) (head .loop .i)) (target-at (begun head .args .nodes .now) (head .loop .i)) r (c .visit-arrow .last .1 .1 .0) (c .visit-arrow .last .1 .1 .1 .0)
 
   left : {rank trail : List ℕ} {links : ℕ} {rules : List Rule} {ts : List Ty} → Stands (lent head rank trail links) rules →
       Settled (lent head rank trail links) rules (head .loop .work) (head .loop .listing) (head .loop .count) ts → (r : Visited) → c .visit-arrow .result ≡ r →
@@ -96,10 +97,10 @@ enum-told : tie.Need-enum-told Inv-loop μ-loop
 enum-told c = search needs
 
 same-length : tie.Need-same-length Inv-loop μ-loop
-same-length c = c .before .before .before .before .before .before .visit-arrow .kept .1 .1 .1 .1 .1 .0 ∙ c .before .before .before .before .before .before .before .before .before .before .before .before .loop .inv .0 .1
+same-length c = c .before .before .before .before .before .before .visit-arrow .kept .1 .1 .0 ∙ c .before .before .before .before .before .before .before .before .before .before .before .before .loop .inv .0 .1
 
 same-length-2 : tie.Need-same-length-2 Inv-loop μ-loop
-same-length-2 c = c .before .before .before .before .before .before .visit-arrow .kept .1 .1 .1 .1 .1 .1 .0 ∙ c .before .before .before .before .before .before .before .before .before .before .before .before .loop .inv .0 .2
+same-length-2 c = c .before .before .before .before .before .before .visit-arrow .kept .1 .1 .1 .0 ∙ c .before .before .before .before .before .before .before .before .before .before .before .before .loop .inv .0 .2
 
 returns : tie.Need-returns Inv-loop μ-loop
 returns c =
@@ -119,7 +120,7 @@ loop-again c =
     let call = c .before .before .before .before .before .before .before in
     let kept = call .visit-arrow .kept in
     let long = head call .loop .inv .0 in (
-      (omega (arith, c .before .before .before .before .before .before .before .before .before .before .before .before .loop-test .taken), kept .1 .1 .1 .1 .1 .0 ∙ long .1, kept .1 .1 .1 .1 .1 .1 .0 ∙ long .2),
+      (omega (arith, c .before .before .before .before .before .before .before .before .before .before .before .before .loop-test .taken), kept .1 .1 .0 ∙ long .1, kept .1 .1 .1 .0 ∙ long .2),
       λ rank trail links rules s q.
           let g = head call .loop .inv .1 rank trail links rules s q in
           through-more g (left call s (g .settled) (Done _) (c .before .types .given .1)),

@@ -3,8 +3,9 @@ use mathlib.Core.Path.{_≡_, subst}
 use mathlib.Core.Logic.{inl}
 use mathlib.Core.List.{List}
 use Prim.Native.Nat.{ℕ}
+use Rattle.classes.specs.Columns.{laid}
 use Rattle.classes.specs.Forced.{Rule}
-use Rattle.classes.specs.Table.{Table, table}
+use Rattle.classes.specs.Table.{Table}
 use Rattle.classes.specs.Made.{Stands}
 use Rattle.typing.specs.Types.{Ty}
 use Rattle.closing.specs.Visiting.{Settled, VisitedBy}
@@ -17,11 +18,11 @@ use Rattle.closing.proofs.listing.visit_arrow.Statement.{statement}
 use Rattle.closing.proofs.listing.visit_arrow.Tie as tie
 
 abbrev start : tie.After-is-numbered → tie.Start
-start c = c .before .before .before .before .before .before .before .before .before
+start c = c .before .before .before .before .before .before
 
 is-numbered-requires : tie.Need-is-numbered-requires
 is-numbered-requires c κs =
-    let pre = c .before .before .before .before .before .before .before .before .pre in
+    let pre = c .before .before .before .before .before .pre in
     mark-there (pre .0 .5) (pre .0 .6) _ (pre .1 .0)
 
 -- the source has its number: the target is visited with nothing changed
@@ -51,13 +52,13 @@ module _ (c : tie.After-visit) where
   abbrev lent : List ℕ → List ℕ → ℕ → Table
   lent rank trail links =
       let a = start look .args in
-      table (a .parent .now) rank (a .shape .now) (a .kind .now) (a .left .now) (a .right .now) trail (a .entries) links
+      laid (a .parent .now) rank (a .rows .now) trail (a .entries) links
 
   first : {rank trail : List ℕ} {links : ℕ} {rules : List Rule} {ts : List Ty} → Stands (lent rank trail links) rules →
       Settled (lent rank trail links) rules (start look .args .work .now) (start look .args .listing .now) (start look .args .count) ts → (r : Visited) → c .visit .result ≡ r →
-      VisitedBy (lent rank trail links) rules (start look .args .work .now) (start look .args .listing .now) (start look .args .count) ts (start look .args .source) r (c .visit .last .1 .1 .1 .1 .1 .0) (c .visit .last .1 .1 .1 .1 .1 .1 .0)
+      VisitedBy (lent rank trail links) rules (start look .args .work .now) (start look .args .listing .now) (start look .args .count) ts (start look .args .source) r (c .visit .last .1 .1 .0) (c .visit .last .1 .1 .1 .0)
   first {rank} {trail} {links} {rules} {ts} s q r is =
-      subst (λ (x : Visited). VisitedBy (lent rank trail links) rules (start look .args .work .now) (start look .args .listing .now) (start look .args .count) ts (start look .args .source) x (c .visit .last .1 .1 .1 .1 .1 .0) (c .visit .last .1 .1 .1 .1 .1 .1 .0)) is
+      subst (λ (x : Visited). VisitedBy (lent rank trail links) rules (start look .args .work .now) (start look .args .listing .now) (start look .args .count) ts (start look .args .source) x (c .visit .last .1 .1 .0) (c .visit .last .1 .1 .1 .0)) is
       (c .visit .ensures rank trail links rules ts s q)
 
 visit-requires : tie.Need-visit-requires

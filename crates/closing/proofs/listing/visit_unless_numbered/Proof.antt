@@ -5,7 +5,7 @@ use Rattle.closing.proofs.listing.visit_unless_numbered.Statement.{stat
 use Rattle.closing.proofs.listing.visit_unless_numbered.Tie as tie
 
 abbrev start : tie.After-is-numbered-arg → tie.Start
-start c = c .before .before .before .before .before .before .before .before
+start c = c .before .before .before .before .before
 
 is-numbered-requires : tie.Need-is-numbered-requires
 is-numbered-requires c κs = let pre = start c .pre in mark-there (pre .0 .5) (pre .0 .6) _ (pre .1)

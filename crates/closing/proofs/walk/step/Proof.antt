@@ -3,6 +3,7 @@ use mathlib.Core.Path.{_≡_, sym, _∙_, subst}
 use mathlib.Core.List.{List}
 use Prim.Native.Nat.{ℕ, _+_, _-_, _*_}
 use lib.ListN.{getD}
+use Rattle.classes.specs.Columns.{column}
 use Rattle.classes.specs.declared.Bound.{Bound}
 use Rattle.closing.specs.Walking.{seen, PartsBelow, Stepped}
 use Rattle.closing.specs.declared.walk.Turn.{Turn}
@@ -11,7 +12,7 @@ use Rattle.closing.proofs.walk.step.Statement.{statement}
 use Rattle.closing.proofs.walk.step.Tie as tie
 
 abbrev begun : tie.After-look → tie.Start
-begun c = c .before .before .before .before .before .before .before .before .before
+begun c = c .before .before .before .before .before .before
 
 -- what the class at the top shows, as it was looked at
 module _ (c : tie.After-look) where
@@ -23,7 +24,7 @@ module _ (c : tie.After-look) where
   abbrev looked : Bound
   looked =
       let a = begun c .args in
-      seen (a .parent .now) (a .shape .now) (a .kind .now) (a .left .now) (a .right .now) (getD (a .work .now) (4 * (a .depth - 1) + 1) 0)
+      seen (a .parent .now) (column 3 (a .rows .now)) (column 0 (a .rows .now)) (column 1 (a .rows .now)) (column 2 (a .rows .now)) (getD (a .work .now) (4 * (a .depth - 1) + 1) 0)
 
   stepped : {b : Bound} (x : Turn) (w l : List ℕ) → c .look .result ≡ b → Left b x w l → Left looked x w l
   stepped x w l e s = subst (λ (b : Bound). Left b x w l) (sym e ∙ c .look .ensures) s

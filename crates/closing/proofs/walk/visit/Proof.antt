@@ -5,8 +5,9 @@ use Prim.Native.Nat.{ℕ, _+_, _*_, _<_}
 use native.Mathlib.Omega.{arith}
 use borrow.Author.Needs.{needs}
 use lib.ListN.{length}
+use Rattle.classes.specs.Columns.{laid}
 use Rattle.classes.specs.Forced.{Rule}
-use Rattle.classes.specs.Table.{Table, table, root-in}
+use Rattle.classes.specs.Table.{Table, root-in}
 use Rattle.classes.specs.Made.{Stands}
 use Rattle.typing.specs.Types.{Ty}
 use Rattle.closing.specs.Walking.{mark-at, path-in, opened}
@@ -22,19 +23,19 @@ use Rattle.closing.proofs.walk.visit.Statement.{statement}
 use Rattle.closing.proofs.walk.visit.Tie as tie
 
 abbrev Inv-loop : tie.InvT-loop
-Inv-loop parent shape kind left right work₀ listing₀ entries count a depth₀ types₀ work listing depth types =
+Inv-loop parent rows work₀ listing₀ entries count a depth₀ types₀ work listing depth types =
     ((length work ≡ length work₀) × (length listing ≡ length listing₀))
     × ((begun rank trail : List ℕ) (links : ℕ) (rules : List Rule) (ts₀ : List Ty) →
-    Stands (table parent rank shape kind left right trail entries links) rules →
-    Settled (table parent rank shape kind left right trail entries links) rules begun listing₀ count ts₀ →
+    Stands (laid parent rank rows trail entries links) rules →
+    Settled (laid parent rank rows trail entries links) rules begun listing₀ count ts₀ →
     a < entries → mark-at begun (root-in parent a) ≡ 0 → work₀ ≡ opened begun 0 (root-in parent a) →
-    ((ts : List Ty) × Walking (table parent rank shape kind left right trail entries links) rules begun listing₀ count ts₀ (root-in parent a) work listing (path-in work depth) types ts))
+    ((ts : List Ty) × Walking (laid parent rank rows trail entries links) rules begun listing₀ count ts₀ (root-in parent a) work listing (path-in work depth) types ts))
 
 abbrev μ-loop : tie.MeasureT-loop
-μ-loop parent shape kind left right work₀ listing₀ entries count a depth₀ types₀ work listing depth types = 2 * unseen work entries + depth
+μ-loop parent rows work₀ listing₀ entries count a depth₀ types₀ work listing depth types = 2 * unseen work entries + depth
 
 abbrev start : tie.After-open-arg Inv-loop μ-loop → tie.Start Inv-loop μ-loop
-start c = c .before .before .before .before .before .before .before .before
+start c = c .before .before .before .before .before
 
 abbrev opening : tie.At-loop Inv-loop μ-loop → tie.After-open Inv-loop μ-loop
 opening c = c .before .before .before
@@ -64,7 +65,7 @@ module _ (c : tie.At-loop Inv-loop μ-loop) where
   abbrev lent : List ℕ → List ℕ → ℕ → Table
   lent rank trail links =
       let a = begun c .args in
-      table (a .parent .now) rank (a .shape .now) (a .kind .now) (a .left .now) (a .right .now) trail (a .entries) links
+      laid (a .parent .now) rank (a .rows .now) trail (a .entries) links
 
   walking : {rank trail : List ℕ} {links : ℕ} {rules : List Rule} {ts₀ : List Ty} → Stands (lent rank trail links) rules →
       Settled (lent rank trail links) rules (begun c .args .work .now) (begun c .args .listing .now) (begun c .args .count) ts₀ →
@@ -85,9 +86,9 @@ module _ (c : tie.After-step Inv-loop μ-loop) where
   left : {rank trail : List ℕ} {links : ℕ} {rules : List Rule} {work₀ listing₀ : List ℕ} {count₀ : ℕ} {ts₀ ts : List Ty} {bottom : ℕ} → Stands (lent head rank trail links) rules →
       Walking (lent head rank trail links) rules work₀ listing₀ count₀ ts₀ bottom (head .loop .work) (head .loop .listing) (path-in (head .loop .work) (head .loop .depth)) (head .loop .types) ts →
       (r : Turn) → c .step .result ≡ r →
-      After (lent head rank trail links) rules work₀ listing₀ count₀ ts₀ bottom (2 * unseen (head .loop .work) (begun head .args .entries) + head .loop .depth) r (c .step .last .1 .1 .1 .1 .1 .0) (c .step .last .1 .1 .1 .1 .1 .1 .0)
+      After (lent head rank trail links) rules work₀ listing₀ count₀ ts₀ bottom (2 * unseen (head .loop .work) (begun head .args .entries) + head .loop .depth) r (c .step .last .1 .1 .0) (c .step .last .1 .1 .1 .0)
   left {rank} {trail} {links} {rules} {work₀} {listing₀} {count₀} {ts₀} {bottom = bottom} s w r is =
-      subst (λ (x : Turn). After (lent head rank trail links) rules work₀ listing₀ count₀ ts₀ bottom (2 * unseen (head .loop .work) (begun head .args .entries) + head .loop .depth) x (c .step .last .1 .1 .1 .1 .1 .0) (c .step .last .1 .1 .1 .1 .1 .1 .0)) is
+      subst (λ (x : Turn). After (lent head rank trail links) rules work₀ listing₀ count₀ ts₀ bottom (2 * unseen (head .loop .work) (begun head .args .entries) + head .loop .depth) x (c .step .last .1 .1 .0) (c .step .last .1 .1 .1 .0)) is
       (walked-on s w (some (c .before .before .before)) (c .step .result) _ _ (c .step .ensures))
 
 loop-holds : tie.Need-loop-holds Inv-loop μ-loop
@@ -96,7 +97,7 @@ loop-holds c = (
   λ begun rank trail links rules ts₀ s q there fresh is.
       let a = start (c .before .before .before .before) .args in (
         ts₀,
-        subst (λ (w : List ℕ). Walking (table (a .parent .now) rank (a .shape .now) (a .kind .now) (a .left .now) (a .right .now) trail (a .entries) links) rules begun (a .listing .now) (a .count) ts₀ (root-in (a .parent .now) (a .a)) w (a .listing .now) (path-in w 1) (a .count) ts₀)
+        subst (λ (w : List ℕ). Walking (laid (a .parent .now) rank (a .rows .now) trail (a .entries) links) rules begun (a .listing .now) (a .count) ts₀ (root-in (a .parent .now) (a .a)) w (a .listing .now) (path-in w 1) (a .count) ts₀)
             (sym is) (walking-begins s q (a .a) there fresh (omega (arith, there))),
       ),
 )
@@ -129,10 +130,10 @@ enum-told : tie.Need-enum-told Inv-loop μ-loop
 enum-told c = search needs
 
 same-length-3 : tie.Need-same-length-3 Inv-loop μ-loop
-same-length-3 c = c .before .before .before .before .before .before .step .kept .1 .1 .1 .1 .1 .0 ∙ c .before .before .before .before .before .before .before .before .before .before .loop .inv .0 .0 ∙ opening (c .before .before .before .before .before .before .before .before .before .before) .«open» .kept .0
+same-length-3 c = c .before .before .before .before .before .before .step .kept .1 .1 .0 ∙ c .before .before .before .before .before .before .before .before .before .before .loop .inv .0 .0 ∙ opening (c .before .before .before .before .before .before .before .before .before .before) .«open» .kept .0
 
 same-length-4 : tie.Need-same-length-4 Inv-loop μ-loop
-same-length-4 c = c .before .before .before .before .before .before .step .kept .1 .1 .1 .1 .1 .1 .0 ∙ c .before .before .before .before .before .before .before .before .before .before .loop .inv .0 .1
+same-length-4 c = c .before .before .before .before .before .before .step .kept .1 .1 .1 .0 ∙ c .before .before .before .before .before .before .before .before .before .before .loop .inv .0 .1
 
 returns-2 : tie.Need-returns-2 Inv-loop μ-loop
 returns-2 c =
@@ -154,7 +155,7 @@ loop-again c =
     let call = c .before .before .before .before .before .before .before in
     let head = call .before .before .before .before in
     let kept = call .step .kept in (
-      (kept .1 .1 .1 .1 .1 .0 ∙ head .loop .inv .0 .0, kept .1 .1 .1 .1 .1 .1 .0 ∙ head .loop .inv .0 .1),
+      (kept .1 .1 .0 ∙ head .loop .inv .0 .0, kept .1 .1 .1 .0 ∙ head .loop .inv .0 .1),
       λ was rank trail links rules ts₀ s q there fresh is.
           let (us, w) = head .loop .inv .1 was rank trail links rules ts₀ s q there fresh is in
           let (vs, x, less) = left call s w _ (c .before .d .given .1) in

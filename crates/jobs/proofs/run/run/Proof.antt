@@ -6,7 +6,7 @@ use native.Mathlib.Nat.{le-antisymm}
 use native.Mathlib.Numerals.{add-one}
 use native.Mathlib.Omega.{arith}
 use lib.ListN.{length}
-use Rattle.classes.specs.Table.{table}
+use Rattle.classes.specs.Columns.{laid}
 use Rattle.types.specs.States.{State, state, Opened}
 use Rattle.jobs.specs.Putting.{Recorded, Puts}
 use Rattle.jobs.proofs.run.run.Statement.{statement}
@@ -22,60 +22,60 @@ module _ {bytes listed answers listed₁ answers₁ : List ℕ} {from : ℕ} {s 
   all-put all = subst (λ (k : ℕ). Puts bytes from s o listed answers k s₁ o₁ listed₁ answers₁) all puts
 
 abbrev Inv-loop : tie.InvT-loop
-Inv-loop parent₀ rank₀ shape₀ kind₀ left₀ right₀ trail₀ work₀ nodes₀ listed₀ bytes from answers₀ count live₀ i₀ parent rank shape kind left right trail work nodes listed answers live i =
-    ((o : Opened 1024 (state (table parent₀ rank₀ shape₀ kind₀ left₀ right₀ trail₀ (live₀ .entries) (live₀ .links)) nodes₀ (live₀ .kept))) →
-    (o′ : Opened 1024 (state (table parent rank shape kind left right trail (live .entries) (live .links)) nodes (live .kept)))
-    × Puts bytes from (state (table parent₀ rank₀ shape₀ kind₀ left₀ right₀ trail₀ (live₀ .entries) (live₀ .links)) nodes₀ (live₀ .kept)) o listed₀ answers₀ i (state (table parent rank shape kind left right trail (live .entries) (live .links)) nodes (live .kept)) o′ listed answers)
-    × ((length parent ≡ length parent₀) × (length rank ≡ length rank₀) × (length shape ≡ length shape₀) × (length kind ≡ length kind₀) × (length left ≡ length left₀) × (length right ≡ length right₀) × (length trail ≡ length trail₀) × (length work ≡ length work₀) × (length nodes ≡ length nodes₀) × (length listed ≡ length listed₀) × (length answers ≡ length answers₀))
+Inv-loop parent₀ rank₀ rows₀ trail₀ work₀ nodes₀ listed₀ bytes from answers₀ count live₀ i₀ parent rank rows trail work nodes listed answers live i =
+    ((o : Opened 1024 (state (laid parent₀ rank₀ rows₀ trail₀ (live₀ .entries) (live₀ .links)) nodes₀ (live₀ .kept))) →
+    (o′ : Opened 1024 (state (laid parent rank rows trail (live .entries) (live .links)) nodes (live .kept)))
+    × Puts bytes from (state (laid parent₀ rank₀ rows₀ trail₀ (live₀ .entries) (live₀ .links)) nodes₀ (live₀ .kept)) o listed₀ answers₀ i (state (laid parent rank rows trail (live .entries) (live .links)) nodes (live .kept)) o′ listed answers)
+    × ((length parent ≡ length parent₀) × (length rank ≡ length rank₀) × (length rows ≡ length rows₀) × (length trail ≡ length trail₀) × (length work ≡ length work₀) × (length nodes ≡ length nodes₀) × (length listed ≡ length listed₀) × (length answers ≡ length answers₀))
     × (i ≤ count)
 
 abbrev μ-loop : tie.MeasureT-loop
-μ-loop parent₀ rank₀ shape₀ kind₀ left₀ right₀ trail₀ work₀ nodes₀ listed₀ bytes from answers₀ count live₀ i₀ parent rank shape kind left right trail work nodes listed answers live i = count - i
+μ-loop parent₀ rank₀ rows₀ trail₀ work₀ nodes₀ listed₀ bytes from answers₀ count live₀ i₀ parent rank rows trail work nodes listed answers live i = count - i
 
 loop-holds : tie.Need-loop-holds Inv-loop μ-loop
-loop-holds c = (λ o. (o, Puts.none), (refl, refl, refl, refl, refl, refl, refl, refl, refl, refl, refl), zero-le)
+loop-holds c = (λ o. (o, Puts.none), (refl, refl, refl, refl, refl, refl, refl, refl), zero-le)
 
 mul-put-bytes : tie.Need-mul-put-bytes Inv-loop μ-loop
 mul-put-bytes c =
-    let start = c .before .before .before .before .before .before .before .before .before .before .before .before .before .before .before .before .before .before .before .before .before .before .before .before in
-    omega (arith, c .before .before .before .before .before .before .before .before .before .before .loop-test .taken, start .pre .1 .1 .0, start .good .1 .1 .1 .1 .1 .1 .1 .1 .1 .1 .0 .1)
+    let start = c .before .before .before .before .before .before .before .before .before .before .before .before .before .before .before .before .before .before in
+    omega (arith, c .before .before .before .before .before .before .before .loop-test .taken, start .pre .1 .1 .0, start .good .1 .1 .1 .1 .1 .1 .1 .0 .1)
 
 add-put-bytes : tie.Need-add-put-bytes Inv-loop μ-loop
 add-put-bytes c =
-    let start = c .before .before .before .before .before .before .before .before .before .before .before .before .before .before .before .before .before .before .before .before .before .before .before .before in
-    omega (arith, c .before .before .before .before .before .before .before .before .before .before .loop-test .taken, start .pre .1 .1 .0, start .good .1 .1 .1 .1 .1 .1 .1 .1 .1 .1 .0 .1)
+    let start = c .before .before .before .before .before .before .before .before .before .before .before .before .before .before .before .before .before .before in
+    omega (arith, c .before .before .before .before .before .before .before .loop-test .taken, start .pre .1 .1 .0, start .good .1 .1 .1 .1 .1 .1 .1 .0 .1)
 
 mul-put-bytes-2 : tie.Need-mul-put-bytes-2 Inv-loop μ-loop
 mul-put-bytes-2 c =
-    let start = c .before .before .before .before .before .before .before .before .before .before .before .before .before .before .before .before .before .before .before .before .before .before .before .before .before in
-    omega (arith, c .before .before .before .before .before .before .before .before .before .before .before .loop-test .taken, start .pre .1 .1 .0, start .good .1 .1 .1 .1 .1 .1 .1 .1 .1 .1 .0 .1)
+    let start = c .before .before .before .before .before .before .before .before .before .before .before .before .before .before .before .before .before .before .before in
+    omega (arith, c .before .before .before .before .before .before .before .before .loop-test .taken, start .pre .1 .1 .0, start .good .1 .1 .1 .1 .1 .1 .1 .0 .1)
 
 put-bytes-requires : tie.Need-put-bytes-requires Inv-loop μ-loop
 put-bytes-requires c κs =
-    let inv = c .before .before .before .before .before .before .before .before .before .before .before .before .loop .inv in
-    let low = c .before .before .before .before .before .before .before .before .before .before .before .loop-test .taken in
-    let start = c .before .before .before .before .before .before .before .before .before .before .before .before .before .before .before .before .before .before .before .before .before .before .before .before .before in (
+    let inv = c .before .before .before .before .before .before .before .before .before .loop .inv in
+    let low = c .before .before .before .before .before .before .before .before .loop-test .taken in
+    let start = c .before .before .before .before .before .before .before .before .before .before .before .before .before .before .before .before .before .before .before in (
       inv .0 (start .pre .0) .0,
       (
         record {
-          pairs = omega (arith, start .pre .1 .0 .pairs, inv .1 .0, inv .1 .7);
-          marks = omega (arith, start .pre .1 .0 .marks, inv .1 .7);
-          numbers = omega (arith, start .pre .1 .0 .numbers, inv .1 .9);
+          pairs = omega (arith, start .pre .1 .0 .pairs, inv .1 .0, inv .1 .4);
+          marks = omega (arith, start .pre .1 .0 .marks, inv .1 .4);
+          numbers = omega (arith, start .pre .1 .0 .numbers, inv .1 .6);
         },
-        (omega (arith, low, start .pre .1 .1 .0), omega (arith, low, start .pre .1 .1 .1, inv .1 .10)),
+        (omega (arith, low, start .pre .1 .1 .0), omega (arith, low, start .pre .1 .1 .1, inv .1 .7)),
       ),
     )
 
 add-i : tie.Need-add-i Inv-loop μ-loop
-add-i c = omega (arith, c .before .before .before .before .before .before .before .before .before .before .before .before .before .before .before .before .before .before .before .before .before .before .before .before .before .before .before .before .before .before .before .before .before .before .loop-test .taken, c .before .before .before .before .before .before .before .before .before .before .before .before .before .before .before .before .before .before .before .before .before .before .before .before .before .before .before .before .before .before .before .before .before .before .before .before .before .before .before .before .before .before .before .before .before .before .before .before .fits .count)
+add-i c = omega (arith, c .before .before .before .before .before .before .before .before .before .before .before .before .before .before .before .before .before .before .before .before .before .before .before .before .before .loop-test .taken, c .before .before .before .before .before .before .before .before .before .before .before .before .before .before .before .before .before .before .before .before .before .before .before .before .before .before .before .before .before .before .before .before .before .before .before .before .fits .count)
 
 loop-less : tie.Need-loop-less Inv-loop μ-loop
-loop-less c = omega (arith, c .before .before .before .before .before .before .before .before .before .before .before .before .before .before .before .before .before .before .before .before .before .before .before .before .before .before .before .before .before .before .before .before .before .before .loop-test .taken)
+loop-less c = omega (arith, c .before .before .before .before .before .before .before .before .before .before .before .before .before .before .before .before .before .before .before .before .before .before .before .before .before .loop-test .taken)
 
 loop-again : tie.Need-loop-again Inv-loop μ-loop
 loop-again c =
-    let p = c .before .before .before .before .before .before .before .before .before .before .before .before .before .before .before .before .before .before .before .before .before .before in
-    let inv = p .before .before .before .before .before .before .before .before .before .before .before .before .before .loop .inv in (
+    let p = c .before .before .before .before .before .before .before .before .before .before .before .before .before .before .before .before in
+    let inv = p .before .before .before .before .before .before .before .before .before .before .loop .inv in (
       λ o.
           let (o₁, puts) = inv .0 o in
           let x = p .put-bytes .ensures o₁ in
@@ -88,12 +88,9 @@ loop-again c =
         p .put-bytes .kept .1 .1 .1 .1 .0 ∙ inv .1 .4,
         p .put-bytes .kept .1 .1 .1 .1 .1 .0 ∙ inv .1 .5,
         p .put-bytes .kept .1 .1 .1 .1 .1 .1 .0 ∙ inv .1 .6,
-        p .put-bytes .kept .1 .1 .1 .1 .1 .1 .1 .0 ∙ inv .1 .7,
-        p .put-bytes .kept .1 .1 .1 .1 .1 .1 .1 .1 .0 ∙ inv .1 .8,
-        p .put-bytes .kept .1 .1 .1 .1 .1 .1 .1 .1 .1 .0 ∙ inv .1 .9,
-        p .put-bytes .kept .1 .1 .1 .1 .1 .1 .1 .1 .1 .1 .1 .1 .0 ∙ inv .1 .10,
+        p .put-bytes .kept .1 .1 .1 .1 .1 .1 .1 .1 .1 .0 ∙ inv .1 .7,
       ),
-      omega (arith, p .before .before .before .before .before .before .before .before .before .before .before .before .loop-test .taken),
+      omega (arith, p .before .before .before .before .before .before .before .before .before .loop-test .taken),
     )
 
 same-length : tie.Need-same-length Inv-loop μ-loop
@@ -119,15 +116,6 @@ same-length-7 c = c .before .loop .inv .1 .6
 
 same-length-8 : tie.Need-same-length-8 Inv-loop μ-loop
 same-length-8 c = c .before .loop .inv .1 .7
-
-same-length-9 : tie.Need-same-length-9 Inv-loop μ-loop
-same-length-9 c = c .before .loop .inv .1 .8
-
-same-length-10 : tie.Need-same-length-10 Inv-loop μ-loop
-same-length-10 c = c .before .loop .inv .1 .9
-
-same-length-11 : tie.Need-same-length-11 Inv-loop μ-loop
-same-length-11 c = c .before .loop .inv .1 .10
 
 returns : tie.Need-returns Inv-loop μ-loop
 returns c =
@@ -158,7 +146,4 @@ run-spec =
     same-length-6
     same-length-7
     same-length-8
-    same-length-9
-    same-length-10
-    same-length-11
     returns)

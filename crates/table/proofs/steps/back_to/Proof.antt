@@ -15,29 +15,29 @@ returns c = search needs
 mul-at : tie.Need-mul-at
 mul-at c = search needs
 
-mul-t16 : tie.Need-mul-t16
-mul-t16 c = search needs
+mul-t13 : tie.Need-mul-t13
+mul-t13 c = search needs
 
-shared-slice-read-t18 : tie.Need-shared-slice-read-t18
-shared-slice-read-t18 c = omega (arith, back _ (c .before .if1 .left) (c .before .before .before .before .before .before .before .before .before .before .pre) .room)
+shared-slice-read-t15 : tie.Need-shared-slice-read-t15
+shared-slice-read-t15 c = omega (arith, back _ (c .before .if1 .left) (c .before .before .before .before .before .before .before .pre) .room)
 
-add-t19 : tie.Need-add-t19
-add-t19 c = search needs
+add-t16 : tie.Need-add-t16
+add-t16 c = search needs
 
-mul-t20 : tie.Need-mul-t20
-mul-t20 c = search needs
+mul-t17 : tie.Need-mul-t17
+mul-t17 c = search needs
 
-shared-slice-read-t22 : tie.Need-shared-slice-read-t22
-shared-slice-read-t22 c = back _ (c .before .before .if1 .left) (c .before .before .before .before .before .before .before .before .before .before .before .pre) .room
+shared-slice-read-t19 : tie.Need-shared-slice-read-t19
+shared-slice-read-t19 c = back _ (c .before .before .if1 .left) (c .before .before .before .before .before .before .before .before .pre) .room
 
 undo-requires : tie.Need-undo-requires
-undo-requires c κs = back-marked (back _ (c .before .before .before .before .before .before .before .before .before .if1 .left) (c .before .before .before .before .before .before .before .before .before .before .before .before .before .before .before .before .before .before .pre)) _ refl refl
+undo-requires c κs = back-marked (back _ (c .before .before .before .before .before .before .if1 .left) (c .before .before .before .before .before .before .before .before .before .before .before .before .pre)) _ refl refl
 
 back-requires : tie.Need-back-requires
 back-requires c κs = search needs
 
-add-t18 : tie.Need-add-t18
-add-t18 c = search needs
+add-t15 : tie.Need-add-t15
+add-t15 c = search needs
 
 same-length : tie.Need-same-length
 same-length c = search needs
@@ -51,17 +51,8 @@ same-length-3 c = search needs
 same-length-4 : tie.Need-same-length-4
 same-length-4 c = search needs
 
-same-length-5 : tie.Need-same-length-5
-same-length-5 c = search needs
-
-same-length-6 : tie.Need-same-length-6
-same-length-6 c = search needs
-
-same-length-7 : tie.Need-same-length-7
-same-length-7 c = search needs
-
 returns-2 : tie.Need-returns-2
-returns-2 c = back-kept (back _ (c .before .before .before .before .before .before .before .before .before .before .before .before .before .before .before .before .before .before .before .before .before .before .before .before .before .if1 .left) (c .before .before .before .before .before .before .before .before .before .before .before .before .before .before .before .before .before .before .before .before .before .before .before .before .before .before .before .before .before .before .before .before .before .before .pre)) _ refl refl (c .before .before .before .before .before .before .before .before .before .before .before .before .before .before .before .undo .ensures)
+returns-2 c = back-kept (back _ (c .before .before .before .before .before .before .before .before .before .before .before .before .before .before .before .before .if1 .left) (c .before .before .before .before .before .before .before .before .before .before .before .before .before .before .before .before .before .before .before .before .before .before .pre)) _ refl refl (c .before .before .before .before .before .before .before .before .before .undo .ensures)
 
 pub back-to-spec : {M : Type 1} → statement M
 back-to-spec =
@@ -70,19 +61,16 @@ back-to-spec =
     no-mark-requires
     returns
     mul-at
-    mul-t16
-    shared-slice-read-t18
-    add-t19
-    mul-t20
-    shared-slice-read-t22
+    mul-t13
+    shared-slice-read-t15
+    add-t16
+    mul-t17
+    shared-slice-read-t19
     undo-requires
     back-requires
-    add-t18
+    add-t15
     same-length
     same-length-2
     same-length-3
     same-length-4
-    same-length-5
-    same-length-6
-    same-length-7
     returns-2)

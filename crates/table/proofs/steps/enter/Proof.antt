@@ -8,16 +8,16 @@ use Rattle.table.proofs.steps.enter.Tie as tie
 
 -- the test and the call, from where the call's answer is known
 abbrev call : tie.After-struct-known → tie.After-add
-call c = c .before .before .before .before .before .before .before .before .before .before .before .before .before .before .before
+call c = c .before .before .before .before .before .before .before .before .before
 
 abbrev call-2 : tie.After-enum-told2 → tie.After-add
-call-2 c = c .before .before .before .before .before .before .before .before .before .before .before .before .before .before
+call-2 c = c .before .before .before .before .before .before .before .before
 
 abbrev test : tie.After-add → tie.Else1
-test c = c .before .before .before .before .before .before .before
+test c = c .before .before .before .before
 
 abbrev start : tie.Else1 → tie.Start
-start c = c .before .before .before .before .before .before .before .before
+start c = c .before .before .before .before .before
 
 parts-there-requires : tie.Need-parts-there-requires
 parts-there-requires c κs = search needs
@@ -31,8 +31,8 @@ add-requires c κs = search needs
 enum-told : tie.Need-enum-told
 enum-told c = search needs
 
-add-t25 : tie.Need-add-t25
-add-t25 c =
+add-t16 : tie.Need-add-t16
+add-t16 c =
     let p = start (test (call c)) .pre in
     record { fits = added-fits (p .1) (added-as (c .before .enum-told .given .1) (call c .add .ensures (p .0))) }
 
@@ -48,6 +48,11 @@ same-length-2 c = search needs
 same-length-3 : tie.Need-same-length-3
 same-length-3 c = search needs
 
+returns-2 : tie.Need-returns-2
+returns-2 c =
+    λ trail m. added-leads m (test (call c) .before .parts-there .ensures (not-false _ (test (call c) .if1 .left)))
+    (added-as (c .before .enum-told .given .1) (call c .add .ensures trail))
+
 same-length-4 : tie.Need-same-length-4
 same-length-4 c = search needs
 
@@ -56,29 +61,6 @@ same-length-5 c = search needs
 
 same-length-6 : tie.Need-same-length-6
 same-length-6 c = search needs
-
-returns-2 : tie.Need-returns-2
-returns-2 c =
-    λ trail m. added-leads m (test (call c) .before .parts-there .ensures (not-false _ (test (call c) .if1 .left)))
-    (added-as (c .before .enum-told .given .1) (call c .add .ensures trail))
-
-same-length-7 : tie.Need-same-length-7
-same-length-7 c = search needs
-
-same-length-8 : tie.Need-same-length-8
-same-length-8 c = search needs
-
-same-length-9 : tie.Need-same-length-9
-same-length-9 c = search needs
-
-same-length-10 : tie.Need-same-length-10
-same-length-10 c = search needs
-
-same-length-11 : tie.Need-same-length-11
-same-length-11 c = search needs
-
-same-length-12 : tie.Need-same-length-12
-same-length-12 c = search needs
 
 returns-3 : tie.Need-returns-3
 returns-3 c =
@@ -93,19 +75,13 @@ enter-spec =
     returns
     add-requires
     enum-told
-    add-t25
+    add-t16
     enum-told-2
     same-length
     same-length-2
     same-length-3
+    returns-2
     same-length-4
     same-length-5
     same-length-6
-    returns-2
-    same-length-7
-    same-length-8
-    same-length-9
-    same-length-10
-    same-length-11
-    same-length-12
     returns-3)

@@ -5,39 +5,39 @@ use Prim.Native.Nat.{_-_}
 use native.Mathlib.Omega.{arith}
 use borrow.Author.Needs.{needs}
 use lib.ListN.{length}
-use Rattle.classes.specs.Table.{table}
+use Rattle.classes.specs.Columns.{laid}
 use Rattle.table.specs.Kept.{Kept}
 use Rattle.table.proofs.Marks.{kept-none}
 use Rattle.table.proofs.steps.run.Statement.{statement}
 use Rattle.table.proofs.steps.run.Tie as tie
 
 abbrev Inv-loop : tie.InvT-loop
-Inv-loop parent₀ rank₀ shape₀ kind₀ left₀ right₀ trail₀ pending₀ marks₀ first end s₀ at₀ parent rank shape kind left right trail pending marks s at =
-    Kept marks (s .taken) (table parent rank shape kind left right trail (s .live .entries) (s .live .links))
-    × ((length parent ≡ length parent₀) × (length rank ≡ length rank₀) × (length shape ≡ length shape₀) × (length kind ≡ length kind₀) × (length left ≡ length left₀) × (length right ≡ length right₀) × (length trail ≡ length trail₀) × (length pending ≡ length pending₀) × (length marks ≡ length marks₀))
+Inv-loop parent₀ rank₀ rows₀ trail₀ pending₀ marks₀ first end s₀ at₀ parent rank rows trail pending marks s at =
+    Kept marks (s .taken) (laid parent rank rows trail (s .live .entries) (s .live .links))
+    × ((length parent ≡ length parent₀) × (length rank ≡ length rank₀) × (length rows ≡ length rows₀) × (length trail ≡ length trail₀) × (length pending ≡ length pending₀) × (length marks ≡ length marks₀))
 
 abbrev μ-loop : tie.MeasureT-loop
-μ-loop parent₀ rank₀ shape₀ kind₀ left₀ right₀ trail₀ pending₀ marks₀ first end s₀ at₀ parent rank shape kind left right trail pending marks s at = end - at
+μ-loop parent₀ rank₀ rows₀ trail₀ pending₀ marks₀ first end s₀ at₀ parent rank rows trail pending marks s at = end - at
 
 -- a turn: where it begins, and its step
 abbrev turn : tie.After-order-at Inv-loop μ-loop → tie.At-loop Inv-loop μ-loop
-turn c = c .before .before .before .before .before .before .before .before .before .before .before
+turn c = c .before .before .before .before .before .before .before .before
 
-abbrev stepped : tie.After-slice-known18 Inv-loop μ-loop → tie.After-step Inv-loop μ-loop
-stepped c = c .before .before .before .before .before .before .before .before .before .before .before .before .before .before .before .before .before .before
+abbrev stepped : tie.After-slice-known12 Inv-loop μ-loop → tie.After-step Inv-loop μ-loop
+stepped c = c .before .before .before .before .before .before .before .before .before .before .before .before
 
 abbrev test : tie.After-order-at Inv-loop μ-loop → tie.In-loop Inv-loop μ-loop
-test c = c .before .before .before .before .before .before .before .before .before .before
+test c = c .before .before .before .before .before .before .before
 
 abbrev start : tie.At-loop Inv-loop μ-loop → tie.Start Inv-loop μ-loop
-start c = c .before .before .before .before .before .before .before .before .before .before .before
+start c = c .before .before .before .before .before .before .before .before
 
 empty-requires : tie.Need-empty-requires Inv-loop μ-loop
 empty-requires c κs = search needs
 
 loop-holds : tie.Need-loop-holds Inv-loop μ-loop
 loop-holds c =
-    (kept-none (c .empty .ensures .0) (c .empty .ensures .1) (c .before .before .before .before .before .before .before .before .before .before .pre .0), (refl, refl, refl, refl, refl, refl, refl, refl, refl))
+    (kept-none (c .empty .ensures .0) (c .empty .ensures .1) (c .before .before .before .before .before .before .before .pre .0), (refl, refl, refl, refl, refl, refl))
 
 order-at-requires : tie.Need-order-at-requires Inv-loop μ-loop
 order-at-requires c κs = search needs
@@ -45,7 +45,7 @@ order-at-requires c κs = search needs
 step-requires : tie.Need-step-requires Inv-loop μ-loop
 step-requires c κs =
     let i = turn c .loop .inv in
-    (i .0, omega (arith, start (turn c) .pre .1, i .1 .0, i .1 .7))
+    (i .0, omega (arith, start (turn c) .pre .1, i .1 .0, i .1 .4))
 
 add-at : tie.Need-add-at Inv-loop μ-loop
 add-at c = let o = stepped c .before in omega (arith, test o .loop-test .taken, start (turn o) .fits .end)
@@ -65,9 +65,6 @@ loop-again c =
         p .step .kept .1 .1 .1 .0 ∙ i .1 .3,
         p .step .kept .1 .1 .1 .1 .0 ∙ i .1 .4,
         p .step .kept .1 .1 .1 .1 .1 .0 ∙ i .1 .5,
-        p .step .kept .1 .1 .1 .1 .1 .1 .0 ∙ i .1 .6,
-        p .step .kept .1 .1 .1 .1 .1 .1 .1 .0 ∙ i .1 .7,
-        p .step .kept .1 .1 .1 .1 .1 .1 .1 .1 .0 ∙ i .1 .8,
       ),
     )
 
@@ -88,15 +85,6 @@ same-length-5 c = c .before .loop .inv .1 .4
 
 same-length-6 : tie.Need-same-length-6 Inv-loop μ-loop
 same-length-6 c = c .before .loop .inv .1 .5
-
-same-length-7 : tie.Need-same-length-7 Inv-loop μ-loop
-same-length-7 c = c .before .loop .inv .1 .6
-
-same-length-8 : tie.Need-same-length-8 Inv-loop μ-loop
-same-length-8 c = c .before .loop .inv .1 .7
-
-same-length-9 : tie.Need-same-length-9 Inv-loop μ-loop
-same-length-9 c = c .before .loop .inv .1 .8
 
 returns : tie.Need-returns Inv-loop μ-loop
 returns c = search needs
@@ -120,7 +108,4 @@ run-spec =
     same-length-4
     same-length-5
     same-length-6
-    same-length-7
-    same-length-8
-    same-length-9
     returns)

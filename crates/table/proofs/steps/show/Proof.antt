@@ -1,4 +1,5 @@
 -- `table::steps::show` meets its contract.
+use Rattle.classes.proofs.Columns.{is-row}
 use Rattle.classes.proofs.Premises.{made-rooted, root-shaped, shape-given}
 use borrow.Author.Needs.{needs}
 use Rattle.table.proofs.steps.show.Statement.{statement}
@@ -11,12 +12,12 @@ returns : tie.Need-returns
 returns c = search needs
 
 root-requires : tie.Need-root-requires
-root-requires c κs = made-rooted (c .before .before .before .before .before .before .before .pre .1 .1) _ (c .if1 .left)
+root-requires c κs = made-rooted (c .before .before .before .before .pre .1 .1) _ (c .if1 .left)
 
 shown-requires : tie.Need-shown-requires
 shown-requires c κs =
-    let m = c .before .before .before .before .before .before .before .before .pre .1 .1 in
-    (made-rooted m _ (c .before .if1 .left), (root-shaped m _ (c .before .if1 .left), shape-given m _ (c .before .if1 .left)))
+    let m = c .before .before .before .before .before .pre .1 .1 in
+    (made-rooted m _ (c .before .if1 .left), (is-row 3 (c .before .before .before .before .before .args .rows .now) _ (root-shaped m _ (c .before .if1 .left)), is-row 0 (c .before .before .before .before .before .args .rows .now) _ (shape-given m _ (c .before .if1 .left) .0)))
 
 class-requires : tie.Need-class-requires
 class-requires c κs = search needs

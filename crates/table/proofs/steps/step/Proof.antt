@@ -7,22 +7,22 @@ use Rattle.table.proofs.steps.step.Tie as tie
 
 -- where the call stands in each arm, from its end, and the entry from there
 abbrev entered : tie.After-added → tie.After-enter
-entered c = c .before .before .before .before .before .before .before .before .before .before .before .before .before .before
+entered c = c .before .before .before .before .before .before .before .before
 
 abbrev joined : tie.After-joined → tie.After-join-or-undo
-joined c = c .before .before .before .before .before .before .before .before .before .before .before .before .before .before .before .before .before .before
+joined c = c .before .before .before .before .before .before .before .before .before .before .before .before
 
 abbrev grown : tie.After-grown → tie.After-grow
-grown c = c .before .before .before .before .before .before .before .before .before .before .before .before .before .before .before .before .before
+grown c = c .before .before .before .before .before .before .before .before .before .before .before
 
 abbrev entered-start : tie.After-enter → tie.Start
-entered-start c = c .before .before .before .before .before .before .before .before .before .before .before .before .before .before .before .before .before .before .before .before
+entered-start c = c .before .before .before .before .before .before .before .before .before .before .before .before .before .before
 
 abbrev joined-start : tie.After-join-or-undo → tie.Start
-joined-start c = c .before .before .before .before .before .before .before .before .before .before .before .before .before .before .before .before .before .before .before .before .before .before
+joined-start c = c .before .before .before .before .before .before .before .before .before .before .before .before .before .before .before .before
 
 abbrev grown-start : tie.After-grow → tie.Start
-grown-start c = c .before .before .before .before .before .before .before .before .before .before .before .before .before .before .before .before .before .before .before .before .before .before .before
+grown-start c = c .before .before .before .before .before .before .before .before .before .before .before .before .before .before .before .before .before
 
 enum-known-order : tie.Need-enum-known-order
 enum-known-order c = search needs
@@ -35,7 +35,7 @@ enum-known-order-2 c = search needs
 
 enter-requires : tie.Need-enter-requires
 enter-requires c κs =
-    let start = c .before .before .before .before .before .before .before .before .before .before .before .before .before .before .before .before .before .before .before in
+    let start = c .before .before .before .before .before .before .before .before .before .before .before .before .before in
     (start .args .trail .now, kept-made (start .pre .0))
 
 parts-there-requires : tie.Need-parts-there-requires
@@ -49,7 +49,7 @@ enum-known-order-3 c = search needs
 
 join-or-undo-requires : tie.Need-join-or-undo-requires
 join-or-undo-requires c κs =
-    let start = c .before .before .before .before .before .before .before .before .before .before .before .before .before .before .before .before .before .before .before .before .before in
+    let start = c .before .before .before .before .before .before .before .before .before .before .before .before .before .before .before in
     (kept-made (start .pre .0), start .pre .1)
 
 joined-requires : tie.Need-joined-requires
@@ -60,7 +60,7 @@ enum-known-order-4 c = search needs
 
 show-requires : tie.Need-show-requires
 show-requires c κs =
-    let start = c .before .before .before .before .before .before .before .before .before .before .before .before .before .before .before .before .before .before in
+    let start = c .before .before .before .before .before .before .before .before .before .before .before .before in
     (start .args .rank .now, (start .args .trail .now, kept-made (start .pre .0)))
 
 enum-told : tie.Need-enum-told
@@ -83,7 +83,7 @@ is-star-requires c κs = search needs
 
 grow-requires : tie.Need-grow-requires
 grow-requires c κs =
-    let start = c .before .before .before .before .before .before .before .before .before .before .before .before .before .before .before .before .before .before .before .before .before .before in
+    let start = c .before .before .before .before .before .before .before .before .before .before .before .before .before .before .before .before in
     (kept-made (start .pre .0), start .pre .1)
 
 grown-requires : tie.Need-grown-requires
@@ -101,6 +101,11 @@ same-length-2 c = search needs
 same-length-3 : tie.Need-same-length-3
 same-length-3 c = search needs
 
+returns-2 : tie.Need-returns-2
+returns-2 c =
+    let start = entered-start (entered c) in
+    kept-on (start .pre .0) (entered c .enter .ensures (start .args .trail .now) (kept-made (start .pre .0)))
+
 same-length-4 : tie.Need-same-length-4
 same-length-4 c = search needs
 
@@ -110,16 +115,14 @@ same-length-5 c = search needs
 same-length-6 : tie.Need-same-length-6
 same-length-6 c = search needs
 
-returns-2 : tie.Need-returns-2
-returns-2 c =
-    let start = entered-start (entered c) in
-    kept-on (start .pre .0) (entered c .enter .ensures (start .args .trail .now) (kept-made (start .pre .0)))
-
 same-length-7 : tie.Need-same-length-7
 same-length-7 c = search needs
 
 same-length-8 : tie.Need-same-length-8
 same-length-8 c = search needs
+
+returns-3 : tie.Need-returns-3
+returns-3 c = kept-on (joined-start (joined c) .pre .0) (joined c .join-or-undo .ensures)
 
 same-length-9 : tie.Need-same-length-9
 same-length-9 c = search needs
@@ -127,8 +130,14 @@ same-length-9 c = search needs
 same-length-10 : tie.Need-same-length-10
 same-length-10 c = search needs
 
+returns-4 : tie.Need-returns-4
+returns-4 c = search needs
+
 same-length-11 : tie.Need-same-length-11
 same-length-11 c = search needs
+
+returns-5 : tie.Need-returns-5
+returns-5 c = c .before .before .take-mark .ensures _ (c .before .before .before .before .before .before .before .before .before .before .before .before .before .pre .0) refl refl
 
 same-length-12 : tie.Need-same-length-12
 same-length-12 c = search needs
@@ -139,14 +148,14 @@ same-length-13 c = search needs
 same-length-14 : tie.Need-same-length-14
 same-length-14 c = search needs
 
-returns-3 : tie.Need-returns-3
-returns-3 c = kept-on (joined-start (joined c) .pre .0) (joined c .join-or-undo .ensures)
-
 same-length-15 : tie.Need-same-length-15
 same-length-15 c = search needs
 
 same-length-16 : tie.Need-same-length-16
 same-length-16 c = search needs
+
+returns-6 : tie.Need-returns-6
+returns-6 c = search needs
 
 same-length-17 : tie.Need-same-length-17
 same-length-17 c = search needs
@@ -157,65 +166,11 @@ same-length-18 c = search needs
 same-length-19 : tie.Need-same-length-19
 same-length-19 c = search needs
 
-returns-4 : tie.Need-returns-4
-returns-4 c = search needs
-
 same-length-20 : tie.Need-same-length-20
 same-length-20 c = search needs
 
-returns-5 : tie.Need-returns-5
-returns-5 c = c .before .before .take-mark .ensures _ (c .before .before .before .before .before .before .before .before .before .before .before .before .before .before .before .before .pre .0) refl refl
-
 same-length-21 : tie.Need-same-length-21
 same-length-21 c = search needs
-
-same-length-22 : tie.Need-same-length-22
-same-length-22 c = search needs
-
-same-length-23 : tie.Need-same-length-23
-same-length-23 c = search needs
-
-same-length-24 : tie.Need-same-length-24
-same-length-24 c = search needs
-
-same-length-25 : tie.Need-same-length-25
-same-length-25 c = search needs
-
-same-length-26 : tie.Need-same-length-26
-same-length-26 c = search needs
-
-same-length-27 : tie.Need-same-length-27
-same-length-27 c = search needs
-
-same-length-28 : tie.Need-same-length-28
-same-length-28 c = search needs
-
-returns-6 : tie.Need-returns-6
-returns-6 c = search needs
-
-same-length-29 : tie.Need-same-length-29
-same-length-29 c = search needs
-
-same-length-30 : tie.Need-same-length-30
-same-length-30 c = search needs
-
-same-length-31 : tie.Need-same-length-31
-same-length-31 c = search needs
-
-same-length-32 : tie.Need-same-length-32
-same-length-32 c = search needs
-
-same-length-33 : tie.Need-same-length-33
-same-length-33 c = search needs
-
-same-length-34 : tie.Need-same-length-34
-same-length-34 c = search needs
-
-same-length-35 : tie.Need-same-length-35
-same-length-35 c = search needs
-
-same-length-36 : tie.Need-same-length-36
-same-length-36 c = search needs
 
 returns-7 : tie.Need-returns-7
 returns-7 c = kept-on (grown-start (grown c) .pre .0) (grown c .grow .ensures)
@@ -247,42 +202,27 @@ step-spec =
     same-length
     same-length-2
     same-length-3
+    returns-2
     same-length-4
     same-length-5
     same-length-6
-    returns-2
     same-length-7
     same-length-8
+    returns-3
     same-length-9
     same-length-10
+    returns-4
     same-length-11
+    returns-5
     same-length-12
     same-length-13
     same-length-14
-    returns-3
     same-length-15
     same-length-16
+    returns-6
     same-length-17
     same-length-18
     same-length-19
-    returns-4
     same-length-20
-    returns-5
     same-length-21
-    same-length-22
-    same-length-23
-    same-length-24
-    same-length-25
-    same-length-26
-    same-length-27
-    same-length-28
-    returns-6
-    same-length-29
-    same-length-30
-    same-length-31
-    same-length-32
-    same-length-33
-    same-length-34
-    same-length-35
-    same-length-36
     returns-7)

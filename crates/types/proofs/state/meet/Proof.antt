@@ -5,7 +5,8 @@ use Prim.Native.Nat.{_+_, _-_, _<_}
 use native.Mathlib.Omega.{arith}
 use borrow.Author.Needs.{needs}
 use lib.ListN.{length, getD}
-use Rattle.classes.specs.Table.{Table, table}
+use Rattle.classes.specs.Table.{Table}
+use Rattle.classes.specs.Columns.{laid}
 use Rattle.classes.specs.Promises.{verdict}
 use Rattle.classes.specs.declared.context.Joined.{Joined}
 use Rattle.classes.specs.Forced.{equal}
@@ -17,19 +18,19 @@ use Rattle.types.proofs.state.meet.Statement.{statement}
 use Rattle.types.proofs.state.meet.Tie as tie
 
 abbrev Inv-loop : tie.InvT-loop
-Inv-loop parent₀ rank₀ shape₀ kind left right trail₀ pending₀ row count entries links₀ i₀ r₀ parent rank shape trail pending links i r =
-    ((length parent ≡ length parent₀) × (length rank ≡ length rank₀) × (length shape ≡ length shape₀) × (length trail ≡ length trail₀) × (length pending ≡ length pending₀))
+Inv-loop parent₀ rank₀ rows₀ trail₀ pending₀ row count entries links₀ i₀ r₀ parent rank rows trail pending links i r =
+    ((length parent ≡ length parent₀) × (length rank ≡ length rank₀) × (length rows ≡ length rows₀) × (length trail ≡ length trail₀) × (length pending ≡ length pending₀))
     × (count ≡ length (meant row .needs))
     × (i < count)
     × (says (r .number) (r .one) (r .other) ≡ getD (meant row .needs) i (says 0 0 0))
-    × Joins (table parent₀ rank₀ shape₀ kind left right trail₀ entries links₀) (meant row .needs) (table parent rank shape kind left right trail entries links) pending i
+    × Joins (laid parent₀ rank₀ rows₀ trail₀ entries links₀) (meant row .needs) (laid parent rank rows trail entries links) pending i
 
 abbrev μ-loop : tie.MeasureT-loop
-μ-loop parent₀ rank₀ shape₀ kind left right trail₀ pending₀ row count entries links₀ i₀ r₀ parent rank shape trail pending links i r = count - i
+μ-loop parent₀ rank₀ rows₀ trail₀ pending₀ row count entries links₀ i₀ r₀ parent rank rows trail pending links i r = count - i
 
 -- the places: the start, and the join, as what follows it has it
 abbrev start : tie.Else1 Inv-loop μ-loop → tie.Start Inv-loop μ-loop
-start c = c .before .before .before .before .before .before .before .before .before
+start c = c .before .before .before .before .before .before
 
 abbrev calls : tie.After-links-made Inv-loop μ-loop → tie.After-join Inv-loop μ-loop
 calls c = c .before .before .before .before .before .before .before .before .before .before .before
@@ -42,9 +43,9 @@ module _ (head : tie.At-loop Inv-loop μ-loop) where
   abbrev now-table : Table
   now-table =
       let a = begun .args in
-      table (head .loop .parent) (head .loop .rank) (head .loop .shape) (a .kind .now) (a .left .now) (a .right .now) (head .loop .trail) (a .live .entries) (head .loop .links)
+      laid (head .loop .parent) (head .loop .rank) (head .loop .rows) (head .loop .trail) (a .live .entries) (head .loop .links)
 
-  abbrev joins-now : Joins (table (begun .args .parent .now) (begun .args .rank .now) (begun .args .shape .now) (begun .args .kind .now) (begun .args .left .now) (begun .args .right .now) (begun .args .trail .now) (begun .args .live .entries) (begun .args .live .links))
+  abbrev joins-now : Joins (laid (begun .args .parent .now) (begun .args .rank .now) (begun .args .rows .now) (begun .args .trail .now) (begun .args .live .entries) (begun .args .live .links))
       (meant (begun .args .row) .needs) now-table (head .loop .pending) (head .loop .i)
   joins-now = head .loop .inv .4
 
@@ -63,22 +64,22 @@ module _ (c : tie.After-links-made Inv-loop μ-loop) where
   then =
       let a = begun h .args in
       let last = calls c .join .last in
-      table (last .0) (last .1 .0) (last .1 .1 .0) (a .kind .now) (a .left .now) (a .right .now) (last .1 .1 .1 .1 .1 .1 .0) (a .live .entries) (h .loop .links + c .links-made .result)
+      laid (last .0) (last .1 .0) (last .1 .1 .0) (last .1 .1 .1 .0) (a .live .entries) (h .loop .links + c .links-made .result)
 
   merged : (j : Joined) → calls c .join .result ≡ j → Merges (now-table h) (equal (h .loop .r .one) (h .loop .r .other) ∷ []) (verdict j) then
-  merged j is = merges-as (now-table h) (calls c .join .last .0) (calls c .join .last .1 .0) (calls c .join .last .1 .1 .0) (calls c .join .last .1 .1 .1 .1 .1 .1 .0) (calls c .join .ensures .merges) (c .links-made .ensures) is
+  merged j is = merges-as (now-table h) (calls c .join .last .0) (calls c .join .last .1 .0) (calls c .join .last .1 .1 .0) (calls c .join .last .1 .1 .1 .0) (calls c .join .ensures .merges) (c .links-made .ensures) is
 
 -- the rule is joined
 module _ (c : tie.After-enum-told Inv-loop μ-loop) where
   abbrev d : tie.After-links-made Inv-loop μ-loop
   d = c .before .before
 
-  abbrev goes : Joins (table (begun (h d) .args .parent .now) (begun (h d) .args .rank .now) (begun (h d) .args .shape .now) (begun (h d) .args .kind .now) (begun (h d) .args .left .now) (begun (h d) .args .right .now) (begun (h d) .args .trail .now) (begun (h d) .args .live .entries) (begun (h d) .args .live .links))
-      (meant (begun (h d) .args .row) .needs) (then d) (calls d .join .last .1 .1 .1 .1 .1 .1 .1 .0) (h d .loop .i + 1)
-  goes = joins-again (joins-now (h d)) (more (h d)) _ _ _ (at-hand (h d)) (merged d _ (c .enum-told .given .1)) refl (calls d .join .kept .0) (calls d .join .kept .1 .1 .1 .1 .1 .1 .1 .0)
+  abbrev goes : Joins (laid (begun (h d) .args .parent .now) (begun (h d) .args .rank .now) (begun (h d) .args .rows .now) (begun (h d) .args .trail .now) (begun (h d) .args .live .entries) (begun (h d) .args .live .links))
+      (meant (begun (h d) .args .row) .needs) (then d) (calls d .join .last .1 .1 .1 .1 .0) (h d .loop .i + 1)
+  goes = joins-again (joins-now (h d)) (more (h d)) _ _ _ (at-hand (h d)) (merged d _ (c .enum-told .given .1)) refl (calls d .join .kept .0) (calls d .join .kept .1 .1 .1 .1 .0)
 
 returns : tie.Need-returns Inv-loop μ-loop
-returns c = none-left _ _ _ _ (c .before .before .before .before .before .before .before .before .before .pre .1 .1) (c .if1 .taken)
+returns c = none-left _ _ _ _ (c .before .before .before .before .before .before .pre .1 .1) (c .if1 .taken)
 
 loop-holds : tie.Need-loop-holds Inv-loop μ-loop
 loop-holds c =
@@ -99,8 +100,8 @@ enum-told c = search needs
 enum-told-2 : tie.Need-enum-told-2 Inv-loop μ-loop
 enum-told-2 c = search needs
 
-add-t31 : tie.Need-add-t31 Inv-loop μ-loop
-add-t31 c = let d = c .before .before in record { fits = links-fit (joins-now (h d)) (more (h d)) _ _ _ (at-hand (h d)) (merged d _ (c .enum-told2 .given .1)) }
+add-t28 : tie.Need-add-t28 Inv-loop μ-loop
+add-t28 c = let d = c .before .before in record { fits = links-fit (joins-now (h d)) (more (h d)) _ _ _ (at-hand (h d)) (merged d _ (c .enum-told2 .given .1)) }
 
 same-length : tie.Need-same-length Inv-loop μ-loop
 same-length c = let d = c .before .before in calls d .join .kept .0 ∙ h d .loop .inv .0 .0
@@ -112,10 +113,10 @@ same-length-3 : tie.Need-same-length-3 Inv-loop μ-loop
 same-length-3 c = let d = c .before .before in calls d .join .kept .1 .1 .0 ∙ h d .loop .inv .0 .2
 
 same-length-4 : tie.Need-same-length-4 Inv-loop μ-loop
-same-length-4 c = let d = c .before .before in calls d .join .kept .1 .1 .1 .1 .1 .1 .0 ∙ h d .loop .inv .0 .3
+same-length-4 c = let d = c .before .before in calls d .join .kept .1 .1 .1 .0 ∙ h d .loop .inv .0 .3
 
 same-length-5 : tie.Need-same-length-5 Inv-loop μ-loop
-same-length-5 c = let d = c .before .before in calls d .join .kept .1 .1 .1 .1 .1 .1 .1 .0 ∙ h d .loop .inv .0 .4
+same-length-5 c = let d = c .before .before in calls d .join .kept .1 .1 .1 .1 .0 ∙ h d .loop .inv .0 .4
 
 returns-2 : tie.Need-returns-2 Inv-loop μ-loop
 returns-2 c = let d = c .before .before in joins-stop (joins-now (h d)) (more (h d)) _ _ _ (at-hand (h d)) (merged d _ (c .enum-told2 .given .1))
@@ -136,16 +137,16 @@ same-length-8 : tie.Need-same-length-8 Inv-loop μ-loop
 same-length-8 c = let d = d (c .before) in calls d .join .kept .1 .1 .0 ∙ h d .loop .inv .0 .2
 
 same-length-9 : tie.Need-same-length-9 Inv-loop μ-loop
-same-length-9 c = let d = d (c .before) in calls d .join .kept .1 .1 .1 .1 .1 .1 .0 ∙ h d .loop .inv .0 .3
+same-length-9 c = let d = d (c .before) in calls d .join .kept .1 .1 .1 .0 ∙ h d .loop .inv .0 .3
 
 same-length-10 : tie.Need-same-length-10 Inv-loop μ-loop
-same-length-10 c = let d = d (c .before) in calls d .join .kept .1 .1 .1 .1 .1 .1 .1 .0 ∙ h d .loop .inv .0 .4
+same-length-10 c = let d = d (c .before) in calls d .join .kept .1 .1 .1 .1 .0 ∙ h d .loop .inv .0 .4
 
 returns-3 : tie.Need-returns-3 Inv-loop μ-loop
 returns-3 c = joins-end (goes (c .before)) (omega (arith, c .if2 .taken, h (d (c .before)) .loop .inv .1))
 
 rule-at-requires : tie.Need-rule-at-requires Inv-loop μ-loop
-rule-at-requires c κs = let h = h (d (c .before)) in (begun h .pre .1 .0, omega (arith, c .if2 .left, h .loop .inv .1))
+rule-at-requires c κs = let h = h (d (c .before)) in (begun h .pre .1 .0, omega arith, omega (arith, c .if2 .left, h .loop .inv .1))
 
 loop-less : tie.Need-loop-less Inv-loop μ-loop
 loop-less c = omega (arith, h (d (c .before .before)) .loop .inv .2)
@@ -156,7 +157,7 @@ loop-again c =
     let h = h (d told) in
     let kept = calls (d told) .join .kept in
     let long = h .loop .inv .0 in (
-      (kept .0 ∙ long .0, kept .1 .0 ∙ long .1, kept .1 .1 .0 ∙ long .2, kept .1 .1 .1 .1 .1 .1 .0 ∙ long .3, kept .1 .1 .1 .1 .1 .1 .1 .0 ∙ long .4),
+      (kept .0 ∙ long .0, kept .1 .0 ∙ long .1, kept .1 .1 .0 ∙ long .2, kept .1 .1 .1 .0 ∙ long .3, kept .1 .1 .1 .1 .0 ∙ long .4),
       h .loop .inv .1,
       c .before .if2 .left,
       c .rule-at .ensures,
@@ -175,7 +176,7 @@ meet-spec =
     links-made-requires
     enum-told
     enum-told-2
-    add-t31
+    add-t28
     same-length
     same-length-2
     same-length-3

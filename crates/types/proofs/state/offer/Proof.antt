@@ -3,7 +3,8 @@ use mathlib.Core.Path.{_≡_, refl, ap, _∙_, subst}
 use Prim.Native.Nat.{ℕ, _+_, _*_, _<_}
 use borrow.Author.Tests.{not-true, not-false}
 use lib.ListN.{length, getD}
-use Rattle.classes.specs.Table.{Table, table}
+use Rattle.classes.specs.Table.{Table}
+use Rattle.classes.specs.Columns.{laid}
 use Rattle.nodes.specs.Layout.{Row, arrow, row-of}
 use Rattle.nodes.specs.Coded.{node-of}
 use Rattle.nodes.specs.Meant.{meant}
@@ -24,7 +25,7 @@ use Rattle.types.proofs.state.offer.Tie as tie
 
 -- the places on the way
 abbrev start : tie.Else1 → tie.Start
-start c = c .before .before .before .before .before .before .before .before .before .before
+start c = c .before .before .before .before .before .before .before
 
 abbrev asked : tie.After-first-child → tie.Else2
 asked c = c .before .before
@@ -36,7 +37,7 @@ read c = c .before .before .before
 abbrev lent : tie.Start → State
 lent c =
     let a = c .args in
-    state (table (a .parent .now) (a .rank .now) (a .shape .now) (a .kind .now) (a .left .now) (a .right .now) (a .trail .now) (a .live .entries) (a .live .links)) (a .nodes .now) (a .live .kept)
+    state (laid (a .parent .now) (a .rank .now) (a .rows .now) (a .trail .now) (a .live .entries) (a .live .links)) (a .nodes .now) (a .live .kept)
 
 -- what is known past the two checks
 module _ (c : tie.Else2) where
@@ -80,13 +81,13 @@ module _ (two : tie.After-arrow-at2) where
 -- its entries are in
 module _ (c : tie.After-enter) where
   abbrev row : tie.After-arrow-at2
-  row = c .before .before .before .before .before .before .before
+  row = c .before .before .before .before
 
   abbrev entered-table : Table
   entered-table =
       let l = c .enter .last in
       let a = from row .args in
-      table (l .0) (l .1 .0) (l .1 .1 .0) (l .1 .1 .1 .0) (l .1 .1 .1 .1 .0) (l .1 .1 .1 .1 .1 .0) (a .trail .now) (c .enter .result .entries) (a .live .links)
+      laid (l .0) (l .1 .0) (l .1 .1 .0) (a .trail .now) (c .enter .result .entries) (a .live .links)
 
   enters : Entering (lent (from row) .classes) (meant (worked row)) (c .enter .result) entered-table
   enters = c .enter .ensures (from row .args .trail .now)
@@ -94,13 +95,13 @@ module _ (c : tie.After-enter) where
 -- what joining its rules leaves, by the answer
 module _ (c : tie.After-meet) where
   abbrev e : tie.After-enter
-  e = c .before .before .before .before .before .before .before .before .before .before .before .before .before .before .before .before .before .before .before .before .before .before .before
+  e = c .before .before .before .before .before .before .before .before .before .before .before .before .before .before
 
   abbrev left-with : Met → Table
   left-with r =
       let l = e .enter .last in
       let m = c .meet .last in
-      table (m .0) (m .1 .0) (m .1 .1 .0) (l .1 .1 .1 .0) (l .1 .1 .1 .1 .0) (l .1 .1 .1 .1 .1 .0) (m .1 .1 .1 .1 .1 .1 .0) (e .enter .result .entries) (met-links r)
+      laid (m .0) (m .1 .0) (m .1 .1 .0) (m .1 .1 .1 .0) (e .enter .result .entries) (met-links r)
 
   met : (r : Met) → c .meet .result ≡ r → Meeting (entered (lent (from (row e)) .classes) (meant (worked (row e)) .entries)) (meant (worked (row e)) .needs) r (left-with r)
   met r is =
@@ -108,11 +109,11 @@ module _ (c : tie.After-meet) where
       (subst (λ (x : Table). Meeting x (meant (worked (row e)) .needs) (c .meet .result) (left-with (c .meet .result))) (enters e .is) (c .meet .ensures))
 
 -- the places of a clash and of a node kept
-abbrev clashes : tie.After-undo-arg7 → tie.After-meet
-clashes c = c .before .before .before .before .before .before .before .before .before .before .before .before .before .before .before .before .before .before .before .before
+abbrev clashes : tie.After-undo-arg4 → tie.After-meet
+clashes c = c .before .before .before .before .before .before .before .before .before .before .before .before .before .before .before .before .before
 
-abbrev undoes : tie.After-slice-known27 → tie.After-undo
-undoes c = c .before .before .before .before .before .before .before .before .before .before .before .before .before .before
+abbrev undoes : tie.After-slice-known18 → tie.After-undo
+undoes c = c .before .before .before .before .before .before .before .before
 
 abbrev fits : tie.After-write-row-arg → tie.After-meet
 fits c = c .before .before .before .before .before .before .before .before .before .before .before .before .before .before
@@ -127,7 +128,7 @@ mul-if1 : tie.Need-mul-if1
 mul-if1 c = search needs
 
 returns : tie.Need-returns
-returns c = λ most o. offer-full o _ (c .before .before .before .before .before .before .before .before .before .before .pre .1 .1) (c .if1 .taken)
+returns c = λ most o. offer-full o _ (c .before .before .before .before .before .before .before .pre .1 .1) (c .if1 .taken)
 
 children-below-requires : tie.Need-children-below-requires
 children-below-requires c κs = search needs
@@ -146,15 +147,15 @@ arrow-at-requires-2 c κs = let a = asked (c .before .before) in rw (begun a .pr
 
 enter-requires : tie.Need-enter-requires
 enter-requires c κs =
-    let two = c .before .before .before .before .before .before in
+    let two = c .before .before .before in
     let a = past two in (
-      (from two .args .trail .now, able two .enterable),
-      ((entries-fit (opened a) (room a) (node-of (begun a .args .n)) (begun a .pre .1 .1) (below a), begun a .pre .1 .1), able two .named),
+      ((from two .args .trail .now, able two .enterable), able two .named, entries-fit (opened a) (room a) (node-of (begun a .args .n)) (begun a .pre .1 .1) (below a)),
+      begun a .pre .1 .1,
     )
 
 meet-requires : tie.Need-meet-requires
 meet-requires c κs =
-    let e = c .before .before .before .before .before .before .before .before .before .before .before .before .before .before .before .before .before .before .before .before .before .before in
+    let e = c .before .before .before .before .before .before .before .before .before .before .before .before .before in
     let a = past (row e) in (
       meetable (able (row e)) (entered-table e) (enters e .is),
       ((entries-fit (opened a) (room a) (node-of (begun a .args .n)) (begun a .pre .1 .1) (below a), begun a .pre .1 .1), enters e .left),
@@ -164,7 +165,7 @@ enum-known-rule : tie.Need-enum-known-rule
 enum-known-rule c = search needs
 
 undo-requires : tie.Need-undo-requires
-undo-requires c κs = let m = met (clashes c) _ (c .before .before .before .before .before .before .before .before .rule .given .1) in clash-marked (able (row (e (clashes c)))) (m .1)
+undo-requires c κs = let m = met (clashes c) _ (c .before .before .before .before .before .rule .given .1) in clash-marked (able (row (e (clashes c)))) (m .1)
 
 enum-known-made : tie.Need-enum-known-made
 enum-known-made c = search needs
@@ -172,14 +173,14 @@ enum-known-made c = search needs
 write-row-requires : tie.Need-write-row-requires
 write-row-requires c κs = let r = row (e (fits c)) in (row-there (opened (past r)) (room (past r)), from r .pre .1 .0)
 
-sub-t88 : tie.Need-sub-t88
-sub-t88 c =
+sub-t67 : tie.Need-sub-t67
+sub-t67 c =
     let w = writes c .before in
     let r = row (e (fits w)) in
     links-more (opened (past r)) (room (past r)) (node-of (from r .args .n)) (from r .pre .1 .1) (below (past r)) (meant (worked r)) (row-eq r (opened (past r))) (met (fits w) _ (w .before .before .made .given .1))
 
-add-t90 : tie.Need-add-t90
-add-t90 c = let r = row (e (fits (writes c .before))) in record { fits = kept-fits (opened (past r)) (room (past r)) (node-of (from r .args .n)) (from r .pre .1 .1) (below (past r)) }
+add-t69 : tie.Need-add-t69
+add-t69 c = let r = row (e (fits (writes c .before))) in record { fits = kept-fits (opened (past r)) (room (past r)) (node-of (from r .args .n)) (from r .pre .1 .1) (below (past r)) }
 
 same-length : tie.Need-same-length
 same-length c = let u = undoes c in let m = clashes (u .before) in u .undo .kept .0 ∙ m .meet .kept .0 ∙ e m .enter .kept .0
@@ -191,58 +192,40 @@ same-length-3 : tie.Need-same-length-3
 same-length-3 c = let u = undoes c in let m = clashes (u .before) in u .undo .kept .1 .1 .0 ∙ m .meet .kept .1 .1 .0 ∙ e m .enter .kept .1 .1 .0
 
 same-length-4 : tie.Need-same-length-4
-same-length-4 c = let u = undoes c in let m = clashes (u .before) in u .undo .kept .1 .1 .1 .0 ∙ e m .enter .kept .1 .1 .1 .0
+same-length-4 c = let u = undoes c in let m = clashes (u .before) in u .undo .kept .1 .1 .1 .0 ∙ m .meet .kept .1 .1 .1 .0
 
 same-length-5 : tie.Need-same-length-5
-same-length-5 c = let u = undoes c in let m = clashes (u .before) in u .undo .kept .1 .1 .1 .1 .0 ∙ e m .enter .kept .1 .1 .1 .1 .0
+same-length-5 c = clashes (undoes c .before) .meet .kept .1 .1 .1 .1 .0
 
 same-length-6 : tie.Need-same-length-6
-same-length-6 c = let u = undoes c in let m = clashes (u .before) in u .undo .kept .1 .1 .1 .1 .1 .0 ∙ e m .enter .kept .1 .1 .1 .1 .1 .0
-
-same-length-7 : tie.Need-same-length-7
-same-length-7 c = let u = undoes c in let m = clashes (u .before) in u .undo .kept .1 .1 .1 .1 .1 .1 .0 ∙ m .meet .kept .1 .1 .1 .1 .1 .1 .0
-
-same-length-8 : tie.Need-same-length-8
-same-length-8 c = clashes (undoes c .before) .meet .kept .1 .1 .1 .1 .1 .1 .1 .0
-
-same-length-9 : tie.Need-same-length-9
-same-length-9 c = search needs
+same-length-6 c = search needs
 
 returns-3 : tie.Need-returns-3
 returns-3 c =
     let u = undoes c in
     let m = clashes (u .before) in
     let r = row (e m) in
-    let stopped = met m _ (u .before .before .before .before .before .before .before .before .before .rule .given .1) in
+    let stopped = met m _ (u .before .before .before .before .before .before .rule .given .1) in
     let back = u .undo .ensures .given-back (lent (from r) .classes) (able r .enterable .made) (clash-run (able r) (stopped .1)) refl in
     λ most o. offer-refused o (room (past r)) (node-of (from r .args .n)) (from r .pre .1 .1) (below (past r)) (meant (worked r)) (row-eq r o) back (stopped .1) (stopped .2)
 
+same-length-7 : tie.Need-same-length-7
+same-length-7 c = let m = fits (writes c .before) in m .meet .kept .0 ∙ e m .enter .kept .0
+
+same-length-8 : tie.Need-same-length-8
+same-length-8 c = let m = fits (writes c .before) in m .meet .kept .1 .0 ∙ e m .enter .kept .1 .0
+
+same-length-9 : tie.Need-same-length-9
+same-length-9 c = let m = fits (writes c .before) in m .meet .kept .1 .1 .0 ∙ e m .enter .kept .1 .1 .0
+
 same-length-10 : tie.Need-same-length-10
-same-length-10 c = let m = fits (writes c .before) in m .meet .kept .0 ∙ e m .enter .kept .0
+same-length-10 c = fits (writes c .before) .meet .kept .1 .1 .1 .0
 
 same-length-11 : tie.Need-same-length-11
-same-length-11 c = let m = fits (writes c .before) in m .meet .kept .1 .0 ∙ e m .enter .kept .1 .0
+same-length-11 c = fits (writes c .before) .meet .kept .1 .1 .1 .1 .0
 
 same-length-12 : tie.Need-same-length-12
-same-length-12 c = let m = fits (writes c .before) in m .meet .kept .1 .1 .0 ∙ e m .enter .kept .1 .1 .0
-
-same-length-13 : tie.Need-same-length-13
-same-length-13 c = e (fits (writes c .before)) .enter .kept .1 .1 .1 .0
-
-same-length-14 : tie.Need-same-length-14
-same-length-14 c = e (fits (writes c .before)) .enter .kept .1 .1 .1 .1 .0
-
-same-length-15 : tie.Need-same-length-15
-same-length-15 c = e (fits (writes c .before)) .enter .kept .1 .1 .1 .1 .1 .0
-
-same-length-16 : tie.Need-same-length-16
-same-length-16 c = fits (writes c .before) .meet .kept .1 .1 .1 .1 .1 .1 .0
-
-same-length-17 : tie.Need-same-length-17
-same-length-17 c = fits (writes c .before) .meet .kept .1 .1 .1 .1 .1 .1 .1 .0
-
-same-length-18 : tie.Need-same-length-18
-same-length-18 c = search needs
+same-length-12 c = search needs
 
 returns-4 : tie.Need-returns-4
 returns-4 c =
@@ -274,25 +257,19 @@ offer-spec =
     undo-requires
     enum-known-made
     write-row-requires
-    sub-t88
-    add-t90
+    sub-t67
+    add-t69
     same-length
     same-length-2
     same-length-3
     same-length-4
     same-length-5
     same-length-6
+    returns-3
     same-length-7
     same-length-8
     same-length-9
-    returns-3
     same-length-10
     same-length-11
     same-length-12
-    same-length-13
-    same-length-14
-    same-length-15
-    same-length-16
-    same-length-17
-    same-length-18
     returns-4)

@@ -8,13 +8,13 @@ use Rattle.types.proofs.state.take_back.Tie as tie
 
 -- the places: the start, where fewer are asked for than are kept, and the undo
 abbrev start : tie.Else2 → tie.Start
-start c = c .before .before .before .before .before .before .before .before .before .before
+start c = c .before .before .before .before .before .before .before
 
-abbrev fewer : tie.After-undo-arg7 → tie.Else2
-fewer c = c .before .before .before .before .before .before .before .before .before
+abbrev fewer : tie.After-undo-arg4 → tie.Else2
+fewer c = c .before .before .before .before .before .before
 
 abbrev undone : tie.After-clear-rows-arg → tie.After-undo
-undone c = c .before .before .before .before .before .before .before .before .before .before .before .before .before .before .before
+undone c = c .before .before .before .before .before .before .before .before .before
 
 less : (c : tie.Else2) → start c .args .to < start c .args .live .kept
 less c = omega arith
@@ -70,15 +70,6 @@ same-length-4 c = search needs
 same-length-5 : tie.Need-same-length-5
 same-length-5 c = search needs
 
-same-length-6 : tie.Need-same-length-6
-same-length-6 c = search needs
-
-same-length-7 : tie.Need-same-length-7
-same-length-7 c = search needs
-
-same-length-8 : tie.Need-same-length-8
-same-length-8 c = search needs
-
 returns-3 : tie.Need-returns-3
 returns-3 c most o =
     let cleared = c .before .before in
@@ -106,7 +97,4 @@ take-back-spec =
     same-length-3
     same-length-4
     same-length-5
-    same-length-6
-    same-length-7
-    same-length-8
     returns-3)

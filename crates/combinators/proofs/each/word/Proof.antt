@@ -1,0 +1,23 @@
+-- `combinators::each::word` meets its contract: no entry and no rule.
+use mathlib.Core.Path.{refl}
+use Rattle.combinators.specs.Entered.{entered}
+use Rattle.combinators.specs.Entered.Meets.{done}
+use borrow.Author.Needs.{needs}
+use Rattle.combinators.proofs.each.word.Statement.{statement}
+use Rattle.combinators.proofs.each.word.Tie as tie
+
+add-from-to : tie.Need-add-from-to
+add-from-to c = search needs
+
+from-to-requires : tie.Need-from-to-requires
+from-to-requires c κs = search needs
+
+says-requires : tie.Need-says-requires
+says-requires c κs = search needs
+
+returns : tie.Need-returns
+unfolding entered
+returns c = λ trail. record { is = refl; gives = c .before .from-to .ensures; left = done }
+
+pub word-spec : {M : Type 1} → statement M
+word-spec = tie.close (tie.spec add-from-to from-to-requires says-requires returns)
