@@ -3,17 +3,23 @@
 
 use super::Bound;
 use super::Mark;
+use super::row::KIND;
+use super::row::LEFT;
+use super::row::PAIR;
+use super::row::RIGHT;
+use super::row::ROW;
+use super::row::SHAPE;
 use super::union_bound;
 ghost use mathlib.Core.Path.{_≡_};
 ghost use Prim.Native.Nat.{ℕ, min, _+_, _*_, _≤_, _<_};
 ghost use mathlib.Core.List.{List};
 ghost use lib.ListN.{length, getD};
-ghost use Rattle.classes.specs.Table.{root-in, kind-of, left-of, right-of};
-ghost use Rattle.classes.specs.Columns.{column, height, given-row, laid};
+ghost use Rattle.classes.specs.Table.{Table, kind-of, left-of, right-of};
+ghost use Rattle.classes.specs.Columns.{shapes, height, laid, lent, given-row};
 ghost use Rattle.classes.specs.Merging.{meeting, shown-by, upper-in, lower-in};
 ghost use Rattle.classes.specs.Made.{Made};
 ghost use Rattle.classes.specs.Promises.{AddedBy, entries-then, Joining, made-links};
-ghost use Rattle.classes.specs.Turning.{Rooted, waiting-in, pushed, PartsPushed, Linkable, Linking, Turnable, Turned, links-then, waiting-then};
+ghost use Rattle.classes.specs.Turning.{waiting-in, pushed, PartsPushed, Linkable, Linking, Turnable, Turned, links-then, waiting-then};
 
 // What adding an entry answers: its number, or that no row is left.
 pub enum Added {
@@ -35,6 +41,13 @@ enum Meeting {
     Parts(u16, u16, u16, u16),
 }
 
+// A bound as the numbers of a row.
+struct Given {
+    kind: u16,
+    left: u16,
+    right: u16,
+}
+
 // Two roots in the order in which they are linked.
 struct Ranked {
     stands: u16,
@@ -47,96 +60,77 @@ enum Turn {
     Goes(usize, u16),
 }
 
-// The counts of an empty table.
-pub fn empty() -> Mark
-    ensures { λ r. ⌜ (r .entries ≡ 0) × (r .links ≡ 0) ⌝ }
-{
-    Mark {
-        entries: 0,
-        links: 0,
-    }
-}
-
-fn kind_of(b: Bound) -> u16
-    ensures { λ r. ⌜ r ≡ kind-of b ⌝ }
+fn numbers(b: Bound) -> Given
+    ensures { λ r. ⌜ (r .kind ≡ kind-of b) × (r .left ≡ left-of b) × (r .right ≡ right-of b) ⌝ }
 {
     match b {
-        Bound::Free => 0,
-        Bound::Unit => 1,
-        Bound::Sum(_, _) => 2,
-        Bound::Product(_, _) => 3,
+        Bound::Free => Given {
+            kind: 0,
+            left: 0,
+            right: 0,
+        },
+        Bound::Unit => Given {
+            kind: 1,
+            left: 0,
+            right: 0,
+        },
+        Bound::Sum(left, right) => Given {
+            kind: 2,
+            left,
+            right,
+        },
+        Bound::Product(left, right) => Given {
+            kind: 3,
+            left,
+            right,
+        },
     }
 }
 
-fn left_of(b: Bound) -> u16
-    ensures { λ r. ⌜ r ≡ left-of b ⌝ }
-{
-    match b {
-        Bound::Free => 0,
-        Bound::Unit => 0,
-        Bound::Sum(l, _) => l,
-        Bound::Product(l, _) => l,
-    }
-}
-
-fn right_of(b: Bound) -> u16
-    ensures { λ r. ⌜ r ≡ right-of b ⌝ }
-{
-    match b {
-        Bound::Free => 0,
-        Bound::Unit => 0,
-        Bound::Sum(_, r) => r,
-        Bound::Product(_, r) => r,
-    }
-}
-
-// Adds an entry with its bound, in a class of its own.
-pub fn add(parent: &mut [u16], rank: &mut [u16], rows: &mut [u16], live: Mark, b: Bound) -> Added
-    requires { ⌜ ((trail : List ℕ) × Made (laid (now parent) (now rank) (now rows) trail (live .entries) (live .links))) ⌝ }
-    ensures { λ r. ⌜ ((trail : List ℕ) → AddedBy
-        (laid (now (parent .entry)) (now (rank .entry)) (now (rows .entry)) trail (live .entries) (live .links))
-        b r
-        (laid (now (parent .exit)) (now (rank .exit)) (now (rows .exit)) trail (entries-then (live .entries) r) (live .links))) ⌝ }
+// Adds an entry with its bound, in a class of its own. Its rank is 0 already, as that of every number past the entries.
+pub fn add(parent: &mut [u16], rows: &mut [u16], live: Mark, b: Bound) -> Added
+    requires { ⌜ ((rank trail : List ℕ) × Made (lent (now parent) rank (now rows) trail live)) ⌝ }
+    ensures { λ r. ⌜ ((rank trail : List ℕ) →
+        let was = lent (now (parent .entry)) rank (now (rows .entry)) trail live in
+        let is = laid (now (parent .exit)) rank (now (rows .exit)) trail (entries-then (live .entries) r) (live .links) in
+        Made was → AddedBy was b r is) ⌝ }
 {
     let entry = live.entries;
     let e = entry as usize;
     if parent.len() <= e {
         return Added::Full;
     }
-    let row = 4 * e;
+    let given = numbers(b);
+    let row = ROW * e;
     parent[e] = entry;
-    rank[e] = 0;
-    rows[row] = kind_of(b);
-    rows[row + 1] = left_of(b);
-    rows[row + 2] = right_of(b);
-    rows[row + 3] = entry;
+    rows[row + KIND] = given.kind;
+    rows[row + LEFT] = given.left;
+    rows[row + RIGHT] = given.right;
+    rows[row + SHAPE] = entry;
     Added::Entry(entry)
 }
 
 // The bound that entry a was given.
-pub fn bound(rows: &[u16], a: u16) -> Bound
+fn bound(rows: &[u16], a: u16) -> Bound
     requires { ⌜ a < height (now rows) ⌝ }
     ensures { λ r. ⌜ r ≡ given-row (now (rows .entry)) a ⌝ }
 {
-    let row = 4 * (a as usize);
-    let k = rows[row];
+    let row = ROW * (a as usize);
+    let k = rows[row + KIND];
     match k {
         0 => Bound::Free,
         1 => Bound::Unit,
-        2 => Bound::Sum(rows[row + 1], rows[row + 2]),
-        _ => Bound::Product(rows[row + 1], rows[row + 2]),
+        2 => Bound::Sum(rows[row + LEFT], rows[row + RIGHT]),
+        _ => Bound::Product(rows[row + LEFT], rows[row + RIGHT]),
     }
 }
 
-// The bound that a's class shows.
-pub fn shown(parent: &[u16], rows: &[u16], a: u16) -> Bound
-    requires { ⌜ Rooted (now parent) a ⌝ }
-    requires { ⌜ root-in (now parent) a < height (now rows) ⌝ }
-    requires { ⌜ getD (column 3 (now rows)) (root-in (now parent) a) 0 < height (now rows) ⌝ }
-    ensures { λ r. ⌜ r ≡ given-row (now (rows .entry)) (getD (column 3 (now (rows .entry))) (root-in (now (parent .entry)) a) 0) ⌝ }
+// The bound that the class of a root shows.
+pub fn shown(rows: &[u16], root: u16) -> Bound
+    requires { ⌜ (root < height (now rows)) × (getD (shapes (now rows)) root 0 < height (now rows)) ⌝ }
+    ensures { λ r. ⌜ r ≡ given-row (now (rows .entry)) (getD (shapes (now (rows .entry))) root 0) ⌝ }
 {
-    let r = union_bound::root(parent, a);
-    let s = rows[4 * (r as usize) + 3];
+    let s = rows[ROW * (root as usize) + SHAPE];
     bound(rows, s)
 }
 
@@ -152,10 +146,10 @@ fn meet(rows: &[u16], own: u16, other: u16) -> Meeting
     requires { ⌜ (own < height (now rows)) × (other < height (now rows)) ⌝ }
     ensures { λ r. ⌜ r ≡ meeting (given-row (now (rows .entry)) own) (given-row (now (rows .entry)) other) ⌝ }
 {
-    let one = 4 * (own as usize);
-    let two = 4 * (other as usize);
-    let k = rows[one];
-    let l = rows[two];
+    let one = ROW * (own as usize);
+    let two = ROW * (other as usize);
+    let k = rows[one + KIND];
+    let l = rows[two + KIND];
     if k == 0 {
         return Meeting::Agree;
     }
@@ -176,11 +170,8 @@ fn shows(rows: &[u16], own: u16, other: u16) -> u16
     requires { ⌜ own < height (now rows) ⌝ }
     ensures { λ r. ⌜ r ≡ shown-by (given-row (now (rows .entry)) own) own other ⌝ }
 {
-    if rows[4 * (own as usize)] == 0 {
-        other
-    } else {
-        own
-    }
+    let kind = rows[ROW * (own as usize) + KIND];
+    if kind == 0 { other } else { own }
 }
 
 // Of two roots, the one that stands and the one that goes below it: the higher rank stands, on equal ranks the first.
@@ -206,8 +197,8 @@ fn push(pending: &mut [u16], waiting: usize, a: u16, b: u16)
     requires { ⌜ 2 * waiting + 2 ≤ length (now pending) ⌝ }
     ensures { λ _. ⌜ now (pending .exit) ≡ pushed (now (pending .entry)) waiting a b ⌝ }
 {
-    pending[2 * waiting] = a;
-    pending[2 * waiting + 1] = b;
+    pending[PAIR * waiting] = a;
+    pending[PAIR * waiting + 1] = b;
 }
 
 // Puts the parts of two bounds that met on the table, the left pair on top, and says how many pairs wait then.
@@ -239,14 +230,13 @@ fn merge(
     below: u16,
 ) -> Turn
     requires { ⌜ ((e : ℕ) × Linkable (laid (now parent) (now rank) (now rows) (now trail) e links) (now pending) waiting stands below) ⌝ }
-    ensures { λ r. ⌜ ((e : ℕ) → Linking
-        (laid (now (parent .entry)) (now (rank .entry)) (now (rows .entry)) (now (trail .entry)) e links)
-        (now (pending .entry)) waiting stands below r
-        (laid (now (parent .exit)) (now (rank .exit)) (now (rows .exit)) (now (trail .exit)) e (links-then links r))
-        (now (pending .exit))) ⌝ }
+    ensures { λ r. ⌜ ((e : ℕ) →
+        let was = laid (now (parent .entry)) (now (rank .entry)) (now (rows .entry)) (now (trail .entry)) e links in
+        let is = laid (now (parent .exit)) (now (rank .exit)) (now (rows .exit)) (now (trail .exit)) e (links-then links r) in
+        Linking was (now (pending .entry)) waiting stands below r is (now (pending .exit))) ⌝ }
 {
-    let own = rows[4 * (stands as usize) + 3];
-    let other = rows[4 * (below as usize) + 3];
+    let own = rows[ROW * (stands as usize) + SHAPE];
+    let other = rows[ROW * (below as usize) + SHAPE];
     let higher = union_bound::raised(rank[below as usize], rank[stands as usize]);
     let shape_then = shows(rows, own, other);
     let met = meet(rows, own, other);
@@ -278,15 +268,16 @@ fn take_turn(
     waiting: usize,
 ) -> Turn
     requires { ⌜ ((e : ℕ) × Turnable (laid (now parent) (now rank) (now rows) (now trail) e links) (now pending) waiting) ⌝ }
-    ensures { λ r. ⌜ ((e : ℕ) → Turnable (laid (now (parent .entry)) (now (rank .entry)) (now (rows .entry)) (now (trail .entry)) e links) (now (pending .entry)) waiting → Turned
-        (laid (now (parent .entry)) (now (rank .entry)) (now (rows .entry)) (now (trail .entry)) e links)
-        (waiting-in (now (pending .entry)) waiting) waiting r
-        (laid (now (parent .exit)) (now (rank .exit)) (now (rows .exit)) (now (trail .exit)) e (links-then links r))
-        (waiting-in (now (pending .exit)) (waiting-then r))) ⌝ }
+    ensures { λ r. ⌜ ((e : ℕ) →
+        let was = laid (now (parent .entry)) (now (rank .entry)) (now (rows .entry)) (now (trail .entry)) e links in
+        let is = laid (now (parent .exit)) (now (rank .exit)) (now (rows .exit)) (now (trail .exit)) e (links-then links r) in
+        let waited = waiting-in (now (pending .entry)) waiting in
+        let waits = waiting-in (now (pending .exit)) (waiting-then r) in
+        Turnable was (now (pending .entry)) waiting → Turned was waited waiting r is waits) ⌝ }
 {
     let top = waiting - 1;
-    let a = union_bound::root(parent, pending[2 * top]);
-    let b = union_bound::root(parent, pending[2 * top + 1]);
+    let a = union_bound::root(parent, pending[PAIR * top]);
+    let b = union_bound::root(parent, pending[PAIR * top + 1]);
     if a == b {
         return Turn::Goes(top, links);
     }
@@ -317,12 +308,13 @@ pub fn join(
     a: u16,
     b: u16,
 ) -> Joined
-    requires { ⌜ Made (laid (now parent) (now rank) (now rows) (now trail) (live .entries) (live .links)) ⌝ }
+    requires { ⌜ Made (lent (now parent) (now rank) (now rows) (now trail) live) ⌝ }
     requires { ⌜ (a < live .entries) × (b < live .entries) × (2 * length (now parent) ≤ length (now pending)) ⌝ }
-    ensures { λ r. ⌜ Joining
-        (laid (now (parent .entry)) (now (rank .entry)) (now (rows .entry)) (now (trail .entry)) (live .entries) (live .links))
-        a b r
-        (laid (now (parent .exit)) (now (rank .exit)) (now (rows .exit)) (now (trail .exit)) (live .entries) (live .links + made-links r)) ⌝ }
+    ensures { λ r. ⌜ (
+        let was = lent (now (parent .entry)) (now (rank .entry)) (now (rows .entry)) (now (trail .entry)) live in
+        let links = live .links + made-links r in
+        let is = laid (now (parent .exit)) (now (rank .exit)) (now (rows .exit)) (now (trail .exit)) (live .entries) links in
+        Joining was a b r is) ⌝ }
 {
     let before = live.links;
     let mut links = before;

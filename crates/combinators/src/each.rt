@@ -11,8 +11,6 @@ use classes::Bound;
 use classes::union_bound;
 use nodes::arrow::Arrow;
 use nodes::arrow::Rule;
-use nodes::arrow::from_to;
-use nodes::arrow::says;
 ghost use mathlib.Core.Path.{_≡_};
 ghost use mathlib.Core.List.{[], _∷_};
 ghost use Prim.Native.Nat.{_+_, _^_, _≤_, _<_};
@@ -22,7 +20,7 @@ ghost use Rattle.classes.specs.Turning.{Rooted};
 ghost use Rattle.nodes.specs.Layout.{arrow, says};
 ghost use Rattle.nodes.specs.Meant.{meant-rule};
 ghost use Rattle.nodes.specs.declared.Node.the-variants.{Iden, Unit, InjL, InjR, Take, Drop, Comp, Case, AssertL, AssertR, Pair, Disconnect, DisconnectHole, Witness, Word};
-ghost use Rattle.combinators.specs.Entering.{Room, Ready, Enters, without-rules, leaf, unary, binary};
+ghost use Rattle.combinators.specs.Entering.{part, Room, Ready, Enters, without-rules, leaf, unary, binary};
 
 // The standing entries: 1, and 2^256.
 const ONE: u16 = 0;
@@ -46,10 +44,19 @@ const DISCONNECT_SOURCE: u16 = 6;
 
 const DISCONNECT_TARGET: u16 = 7;
 
+fn says(number: u16, one: u16, other: u16) -> Rule
+    ensures { λ r. ⌜ meant-rule r ≡ says number one other ⌝ }
+{
+    Rule { number, one, other }
+}
+
 // How many rules a rule leaves to be joined: none, if its two entries are in one class already.
 fn unmet(parent: &[u16], rule: Rule) -> u16
     requires { ⌜ Rooted (now parent) (rule .one) × Rooted (now parent) (rule .other) ⌝ }
-    ensures { λ r. ⌜ (root-in (now (parent .entry)) (rule .one) ≡ root-in (now (parent .entry)) (rule .other) → r ≡ 0) × ((root-in (now (parent .entry)) (rule .one) ≡ root-in (now (parent .entry)) (rule .other) → ⊥) → r ≡ 1) ⌝ }
+    ensures { λ r. ⌜ (
+        let one = root-in (now (parent .entry)) (rule .one) in
+        let other = root-in (now (parent .entry)) (rule .other) in
+        (one ≡ other → r ≡ 0) × ((one ≡ other → ⊥) → r ≡ 1)) ⌝ }
 {
     if union_bound::root(parent, rule.one) == union_bound::root(parent, rule.other) {
         0
@@ -61,7 +68,6 @@ fn unmet(parent: &[u16], rule: Rule) -> u16
 // A row of one entry, without rules.
 fn enter_one(
     parent: &mut [u16],
-    rank: &mut [u16],
     rows: &mut [u16],
     links: u16,
     e: u16,
@@ -69,11 +75,17 @@ fn enter_one(
     source: u16,
     target: u16,
 ) -> Entered
-    requires { ⌜ Room (now parent) (now rank) (now rows) links e (b ∷ []) ⌝ }
-    ensures { λ r. ⌜ Enters (now (parent .entry)) (now (rank .entry)) (now (rows .entry)) links e (without-rules (b ∷ []) (arrow source target)) r (now (parent .exit)) (now (rank .exit)) (now (rows .exit)) ⌝ }
+    requires { ⌜ Room (part (now parent) (now rows) e links) (b ∷ []) ⌝ }
+    ensures { λ r. ⌜ (
+        let was = part (now (parent .entry)) (now (rows .entry)) e links in
+        let is = part (now (parent .exit)) (now (rows .exit)) (r .entries) links in
+        Enters was (without-rules (b ∷ []) (arrow source target)) r is) ⌝ }
 {
-    let entries = add_one(parent, rank, rows, links, e, b);
-    let gives = from_to(source, target);
+    let entries = add_one(parent, rows, links, e, b);
+    let gives = Arrow {
+        source: source,
+        target: target,
+    };
     let first = says(0, 0, 0);
     Entered {
         entries,
@@ -86,7 +98,6 @@ fn enter_one(
 // A row of two entries, without rules.
 fn enter_two(
     parent: &mut [u16],
-    rank: &mut [u16],
     rows: &mut [u16],
     links: u16,
     e: u16,
@@ -95,11 +106,17 @@ fn enter_two(
     source: u16,
     target: u16,
 ) -> Entered
-    requires { ⌜ Room (now parent) (now rank) (now rows) links e (a ∷ b ∷ []) ⌝ }
-    ensures { λ r. ⌜ Enters (now (parent .entry)) (now (rank .entry)) (now (rows .entry)) links e (without-rules (a ∷ b ∷ []) (arrow source target)) r (now (parent .exit)) (now (rank .exit)) (now (rows .exit)) ⌝ }
+    requires { ⌜ Room (part (now parent) (now rows) e links) (a ∷ b ∷ []) ⌝ }
+    ensures { λ r. ⌜ (
+        let was = part (now (parent .entry)) (now (rows .entry)) e links in
+        let is = part (now (parent .exit)) (now (rows .exit)) (r .entries) links in
+        Enters was (without-rules (a ∷ b ∷ []) (arrow source target)) r is) ⌝ }
 {
-    let entries = add_two(parent, rank, rows, links, e, a, b);
-    let gives = from_to(source, target);
+    let entries = add_two(parent, rows, links, e, a, b);
+    let gives = Arrow {
+        source: source,
+        target: target,
+    };
     let first = says(0, 0, 0);
     Entered {
         entries,
@@ -110,37 +127,44 @@ fn enter_two(
 }
 
 // A → A.
-pub fn iden(parent: &mut [u16], rank: &mut [u16], rows: &mut [u16], links: u16, e: u16) -> Entered
-    requires { ⌜ Ready (now parent) (now rank) (now rows) links e (leaf Iden e) ⌝ }
-    ensures { λ r. ⌜ Enters (now (parent .entry)) (now (rank .entry)) (now (rows .entry)) links e (leaf Iden e) r (now (parent .exit)) (now (rank .exit)) (now (rows .exit)) ⌝ }
+pub(super) fn iden(parent: &mut [u16], rows: &mut [u16], links: u16, e: u16) -> Entered
+    requires { ⌜ Ready (part (now parent) (now rows) e links) e (leaf Iden e) ⌝ }
+    ensures { λ r. ⌜ (
+        let was = part (now (parent .entry)) (now (rows .entry)) e links in
+        let is = part (now (parent .exit)) (now (rows .exit)) (r .entries) links in
+        Enters was (leaf Iden e) r is) ⌝ }
 {
-    enter_one(parent, rank, rows, links, e, Bound::Free, e, e)
+    enter_one(parent, rows, links, e, Bound::Free, e, e)
 }
 
 // A → 1.
-pub fn unit(parent: &mut [u16], rank: &mut [u16], rows: &mut [u16], links: u16, e: u16) -> Entered
-    requires { ⌜ Ready (now parent) (now rank) (now rows) links e (leaf Unit e) ⌝ }
-    ensures { λ r. ⌜ Enters (now (parent .entry)) (now (rank .entry)) (now (rows .entry)) links e (leaf Unit e) r (now (parent .exit)) (now (rank .exit)) (now (rows .exit)) ⌝ }
+pub(super) fn unit(parent: &mut [u16], rows: &mut [u16], links: u16, e: u16) -> Entered
+    requires { ⌜ Ready (part (now parent) (now rows) e links) e (leaf Unit e) ⌝ }
+    ensures { λ r. ⌜ (
+        let was = part (now (parent .entry)) (now (rows .entry)) e links in
+        let is = part (now (parent .exit)) (now (rows .exit)) (r .entries) links in
+        Enters was (leaf Unit e) r is) ⌝ }
 {
-    enter_one(parent, rank, rows, links, e, Bound::Free, e, ONE)
+    enter_one(parent, rows, links, e, Bound::Free, e, ONE)
 }
 
 // A → B + C, where s : A → B.
-pub fn injl(
+pub(super) fn injl(
     parent: &mut [u16],
-    rank: &mut [u16],
     rows: &mut [u16],
     links: u16,
     s: Arrow,
     e: u16,
 ) -> Entered
-    requires { ⌜ Ready (now parent) (now rank) (now rows) links e (unary InjL s e) ⌝ }
-    ensures { λ r. ⌜ Enters (now (parent .entry)) (now (rank .entry)) (now (rows .entry)) links e (unary InjL s e) r (now (parent .exit)) (now (rank .exit)) (now (rows .exit)) ⌝ }
+    requires { ⌜ Ready (part (now parent) (now rows) e links) e (unary InjL s e) ⌝ }
+    ensures { λ r. ⌜ (
+        let was = part (now (parent .entry)) (now (rows .entry)) e links in
+        let is = part (now (parent .exit)) (now (rows .exit)) (r .entries) links in
+        Enters was (unary InjL s e) r is) ⌝ }
 {
     let b = Bound::Sum(s.target, e);
     enter_two(
         parent,
-        rank,
         rows,
         links,
         e,
@@ -152,21 +176,22 @@ pub fn injl(
 }
 
 // A → B + C, where s : A → C.
-pub fn injr(
+pub(super) fn injr(
     parent: &mut [u16],
-    rank: &mut [u16],
     rows: &mut [u16],
     links: u16,
     s: Arrow,
     e: u16,
 ) -> Entered
-    requires { ⌜ Ready (now parent) (now rank) (now rows) links e (unary InjR s e) ⌝ }
-    ensures { λ r. ⌜ Enters (now (parent .entry)) (now (rank .entry)) (now (rows .entry)) links e (unary InjR s e) r (now (parent .exit)) (now (rank .exit)) (now (rows .exit)) ⌝ }
+    requires { ⌜ Ready (part (now parent) (now rows) e links) e (unary InjR s e) ⌝ }
+    ensures { λ r. ⌜ (
+        let was = part (now (parent .entry)) (now (rows .entry)) e links in
+        let is = part (now (parent .exit)) (now (rows .exit)) (r .entries) links in
+        Enters was (unary InjR s e) r is) ⌝ }
 {
     let b = Bound::Sum(e, s.target);
     enter_two(
         parent,
-        rank,
         rows,
         links,
         e,
@@ -178,21 +203,22 @@ pub fn injr(
 }
 
 // A × B → C, where s : A → C.
-pub fn take(
+pub(super) fn take(
     parent: &mut [u16],
-    rank: &mut [u16],
     rows: &mut [u16],
     links: u16,
     s: Arrow,
     e: u16,
 ) -> Entered
-    requires { ⌜ Ready (now parent) (now rank) (now rows) links e (unary Take s e) ⌝ }
-    ensures { λ r. ⌜ Enters (now (parent .entry)) (now (rank .entry)) (now (rows .entry)) links e (unary Take s e) r (now (parent .exit)) (now (rank .exit)) (now (rows .exit)) ⌝ }
+    requires { ⌜ Ready (part (now parent) (now rows) e links) e (unary Take s e) ⌝ }
+    ensures { λ r. ⌜ (
+        let was = part (now (parent .entry)) (now (rows .entry)) e links in
+        let is = part (now (parent .exit)) (now (rows .exit)) (r .entries) links in
+        Enters was (unary Take s e) r is) ⌝ }
 {
     let b = Bound::Product(s.source, e);
     enter_two(
         parent,
-        rank,
         rows,
         links,
         e,
@@ -204,21 +230,22 @@ pub fn take(
 }
 
 // A × B → C, where s : B → C.
-pub fn drop(
+pub(super) fn drop(
     parent: &mut [u16],
-    rank: &mut [u16],
     rows: &mut [u16],
     links: u16,
     s: Arrow,
     e: u16,
 ) -> Entered
-    requires { ⌜ Ready (now parent) (now rank) (now rows) links e (unary Drop s e) ⌝ }
-    ensures { λ r. ⌜ Enters (now (parent .entry)) (now (rank .entry)) (now (rows .entry)) links e (unary Drop s e) r (now (parent .exit)) (now (rank .exit)) (now (rows .exit)) ⌝ }
+    requires { ⌜ Ready (part (now parent) (now rows) e links) e (unary Drop s e) ⌝ }
+    ensures { λ r. ⌜ (
+        let was = part (now (parent .entry)) (now (rows .entry)) e links in
+        let is = part (now (parent .exit)) (now (rows .exit)) (r .entries) links in
+        Enters was (unary Drop s e) r is) ⌝ }
 {
     let b = Bound::Product(e, s.source);
     enter_two(
         parent,
-        rank,
         rows,
         links,
         e,
@@ -230,19 +257,24 @@ pub fn drop(
 }
 
 // A → C, where s : A → B and t : B → C. It adds no entry.
-pub fn comp(
+pub(super) fn comp(
     parent: &[u16],
-    rank: &[u16],
     rows: &[u16],
     links: u16,
     s: Arrow,
     t: Arrow,
     e: u16,
 ) -> Entered
-    requires { ⌜ Ready (now parent) (now rank) (now rows) links e (binary Comp s t e) ⌝ }
-    ensures { λ r. ⌜ Enters (now (parent .entry)) (now (rank .entry)) (now (rows .entry)) links e (binary Comp s t e) r (now (parent .entry)) (now (rank .entry)) (now (rows .entry)) ⌝ }
+    requires { ⌜ Ready (part (now parent) (now rows) e links) e (binary Comp s t e) ⌝ }
+    ensures { λ r. ⌜ (
+        let was = part (now (parent .entry)) (now (rows .entry)) e links in
+        let is = part (now (parent .entry)) (now (rows .entry)) (r .entries) links in
+        Enters was (binary Comp s t e) r is) ⌝ }
 {
-    let gives = from_to(s.source, t.target);
+    let gives = Arrow {
+        source: s.source,
+        target: t.target,
+    };
     let first = Rule {
         number: COMP_MIDDLE,
         one: s.target,
@@ -258,24 +290,29 @@ pub fn comp(
 }
 
 // (A + B) × C → D, where s : A × C → D and t : B × C → D.
-pub fn case(
+pub(super) fn case(
     parent: &mut [u16],
-    rank: &mut [u16],
     rows: &mut [u16],
     links: u16,
     s: Arrow,
     t: Arrow,
     e: u16,
 ) -> Entered
-    requires { ⌜ Ready (now parent) (now rank) (now rows) links e (binary Case s t e) ⌝ }
-    ensures { λ r. ⌜ Enters (now (parent .entry)) (now (rank .entry)) (now (rows .entry)) links e (binary Case s t e) r (now (parent .exit)) (now (rank .exit)) (now (rows .exit)) ⌝ }
+    requires { ⌜ Ready (part (now parent) (now rows) e links) e (binary Case s t e) ⌝ }
+    ensures { λ r. ⌜ (
+        let was = part (now (parent .entry)) (now (rows .entry)) e links in
+        let is = part (now (parent .exit)) (now (rows .exit)) (r .entries) links in
+        Enters was (binary Case s t e) r is) ⌝ }
 {
-    let gives = from_to(e + 5, e + 3);
+    let gives = Arrow {
+        source: e + 5,
+        target: e + 3,
+    };
     let first = case_rule(s, t, e, 0);
     let left = Bound::Product(e, e + 2);
     let right = Bound::Product(e + 1, e + 2);
-    let seven = add_case(parent, rank, rows, links, e, left);
-    let entries = add_one(parent, rank, rows, links, seven, right);
+    let seven = add_case(parent, rows, links, e, left);
+    let entries = add_one(parent, rows, links, seven, right);
     Entered {
         entries,
         gives,
@@ -285,7 +322,7 @@ pub fn case(
 }
 
 // Its rules: source s = A × C, D = target s, source t = B × C, D = target t.
-pub fn case_rule(s: Arrow, t: Arrow, e: u16, i: u16) -> Rule
+pub(super) fn case_rule(s: Arrow, t: Arrow, e: u16, i: u16) -> Rule
     requires { ⌜ (e + 8 < 2 ^ 16) × (i < 4) ⌝ }
     ensures { λ r. ⌜ meant-rule r ≡ getD (binary Case s t e .needs) i (says 0 0 0) ⌝ }
 {
@@ -298,21 +335,26 @@ pub fn case_rule(s: Arrow, t: Arrow, e: u16, i: u16) -> Rule
 }
 
 // A case whose second child is hidden.
-pub fn assertl(
+pub(super) fn assertl(
     parent: &mut [u16],
-    rank: &mut [u16],
     rows: &mut [u16],
     links: u16,
     s: Arrow,
     e: u16,
 ) -> Entered
-    requires { ⌜ Ready (now parent) (now rank) (now rows) links e (unary AssertL s e) ⌝ }
-    ensures { λ r. ⌜ Enters (now (parent .entry)) (now (rank .entry)) (now (rows .entry)) links e (unary AssertL s e) r (now (parent .exit)) (now (rank .exit)) (now (rows .exit)) ⌝ }
+    requires { ⌜ Ready (part (now parent) (now rows) e links) e (unary AssertL s e) ⌝ }
+    ensures { λ r. ⌜ (
+        let was = part (now (parent .entry)) (now (rows .entry)) e links in
+        let is = part (now (parent .exit)) (now (rows .exit)) (r .entries) links in
+        Enters was (unary AssertL s e) r is) ⌝ }
 {
-    let gives = from_to(e + 5, e + 3);
+    let gives = Arrow {
+        source: e + 5,
+        target: e + 3,
+    };
     let first = assertl_rule(s, e, 0);
     let half = Bound::Product(e, e + 2);
-    let entries = add_case(parent, rank, rows, links, e, half);
+    let entries = add_case(parent, rows, links, e, half);
     Entered {
         entries,
         gives,
@@ -322,7 +364,7 @@ pub fn assertl(
 }
 
 // Its rules: source s = A × C, D = target s.
-pub fn assertl_rule(s: Arrow, e: u16, i: u16) -> Rule
+pub(super) fn assertl_rule(s: Arrow, e: u16, i: u16) -> Rule
     requires { ⌜ (e + 8 < 2 ^ 16) × (i < 2) ⌝ }
     ensures { λ r. ⌜ meant-rule r ≡ getD (unary AssertL s e .needs) i (says 0 0 0) ⌝ }
 {
@@ -334,21 +376,26 @@ pub fn assertl_rule(s: Arrow, e: u16, i: u16) -> Rule
 }
 
 // A case whose first child is hidden.
-pub fn assertr(
+pub(super) fn assertr(
     parent: &mut [u16],
-    rank: &mut [u16],
     rows: &mut [u16],
     links: u16,
     s: Arrow,
     e: u16,
 ) -> Entered
-    requires { ⌜ Ready (now parent) (now rank) (now rows) links e (unary AssertR s e) ⌝ }
-    ensures { λ r. ⌜ Enters (now (parent .entry)) (now (rank .entry)) (now (rows .entry)) links e (unary AssertR s e) r (now (parent .exit)) (now (rank .exit)) (now (rows .exit)) ⌝ }
+    requires { ⌜ Ready (part (now parent) (now rows) e links) e (unary AssertR s e) ⌝ }
+    ensures { λ r. ⌜ (
+        let was = part (now (parent .entry)) (now (rows .entry)) e links in
+        let is = part (now (parent .exit)) (now (rows .exit)) (r .entries) links in
+        Enters was (unary AssertR s e) r is) ⌝ }
 {
-    let gives = from_to(e + 5, e + 3);
+    let gives = Arrow {
+        source: e + 5,
+        target: e + 3,
+    };
     let first = assertr_rule(s, e, 0);
     let half = Bound::Product(e + 1, e + 2);
-    let entries = add_case(parent, rank, rows, links, e, half);
+    let entries = add_case(parent, rows, links, e, half);
     Entered {
         entries,
         gives,
@@ -358,7 +405,7 @@ pub fn assertr(
 }
 
 // Its rules: source s = B × C, D = target s.
-pub fn assertr_rule(s: Arrow, e: u16, i: u16) -> Rule
+pub(super) fn assertr_rule(s: Arrow, e: u16, i: u16) -> Rule
     requires { ⌜ (e + 8 < 2 ^ 16) × (i < 2) ⌝ }
     ensures { λ r. ⌜ meant-rule r ≡ getD (unary AssertR s e .needs) i (says 0 0 0) ⌝ }
 {
@@ -370,26 +417,31 @@ pub fn assertr_rule(s: Arrow, e: u16, i: u16) -> Rule
 }
 
 // A → B × C, where s : A → B and t : A → C.
-pub fn pair(
+pub(super) fn pair(
     parent: &mut [u16],
-    rank: &mut [u16],
     rows: &mut [u16],
     links: u16,
     s: Arrow,
     t: Arrow,
     e: u16,
 ) -> Entered
-    requires { ⌜ Ready (now parent) (now rank) (now rows) links e (binary Pair s t e) ⌝ }
-    ensures { λ r. ⌜ Enters (now (parent .entry)) (now (rank .entry)) (now (rows .entry)) links e (binary Pair s t e) r (now (parent .exit)) (now (rank .exit)) (now (rows .exit)) ⌝ }
+    requires { ⌜ Ready (part (now parent) (now rows) e links) e (binary Pair s t e) ⌝ }
+    ensures { λ r. ⌜ (
+        let was = part (now (parent .entry)) (now (rows .entry)) e links in
+        let is = part (now (parent .exit)) (now (rows .exit)) (r .entries) links in
+        Enters was (binary Pair s t e) r is) ⌝ }
 {
-    let gives = from_to(s.source, e);
+    let gives = Arrow {
+        source: s.source,
+        target: e,
+    };
     let first = Rule {
         number: PAIR_SOURCES,
         one: s.source,
         other: t.source,
     };
     let b = Bound::Product(s.target, t.target);
-    let entries = add_one(parent, rank, rows, links, e, b);
+    let entries = add_one(parent, rows, links, e, b);
     let rules = unmet(parent, first);
     Entered {
         entries,
@@ -400,25 +452,30 @@ pub fn pair(
 }
 
 // A → B × D, where s : 2^256 × A → B × C and t : C → D.
-pub fn disconnect(
+pub(super) fn disconnect(
     parent: &mut [u16],
-    rank: &mut [u16],
     rows: &mut [u16],
     links: u16,
     s: Arrow,
     t: Arrow,
     e: u16,
 ) -> Entered
-    requires { ⌜ Ready (now parent) (now rank) (now rows) links e (binary Disconnect s t e) ⌝ }
-    ensures { λ r. ⌜ Enters (now (parent .entry)) (now (rank .entry)) (now (rows .entry)) links e (binary Disconnect s t e) r (now (parent .exit)) (now (rank .exit)) (now (rows .exit)) ⌝ }
+    requires { ⌜ Ready (part (now parent) (now rows) e links) e (binary Disconnect s t e) ⌝ }
+    ensures { λ r. ⌜ (
+        let was = part (now (parent .entry)) (now (rows .entry)) e links in
+        let is = part (now (parent .exit)) (now (rows .exit)) (r .entries) links in
+        Enters was (binary Disconnect s t e) r is) ⌝ }
 {
-    let gives = from_to(e, e + 4);
+    let gives = Arrow {
+        source: e,
+        target: e + 4,
+    };
     let first = disconnect_rule(s, e + 2, e + 3, 0);
     let a = Bound::Product(POWER_256, e);
     let b = Bound::Product(e + 1, t.source);
     let c = Bound::Product(e + 1, t.target);
-    let two = add_two(parent, rank, rows, links, e, Bound::Free, Bound::Free);
-    let entries = add_three(parent, rank, rows, links, two, a, b, c);
+    let two = add_two(parent, rows, links, e, Bound::Free, Bound::Free);
+    let entries = add_three(parent, rows, links, two, a, b, c);
     Entered {
         entries,
         gives,
@@ -428,7 +485,7 @@ pub fn disconnect(
 }
 
 // Its rules, and those of one whose second child is a hole: source s = 2^256 × A and target s = B × C, which are the entries `first` and `second`.
-pub fn disconnect_rule(s: Arrow, first: u16, second: u16, i: u16) -> Rule
+pub(super) fn disconnect_rule(s: Arrow, first: u16, second: u16, i: u16) -> Rule
     requires { ⌜ i < 2 ⌝ }
     ensures { λ r. ⌜ meant-rule r ≡ getD (says 6 (s .source) first ∷ says 7 (s .target) second ∷ []) i (says 0 0 0) ⌝ }
 {
@@ -440,25 +497,30 @@ pub fn disconnect_rule(s: Arrow, first: u16, second: u16, i: u16) -> Rule
 }
 
 // The same with a hole for t: C and D are free.
-pub fn disconnect_hole(
+pub(super) fn disconnect_hole(
     parent: &mut [u16],
-    rank: &mut [u16],
     rows: &mut [u16],
     links: u16,
     s: Arrow,
     e: u16,
 ) -> Entered
-    requires { ⌜ Ready (now parent) (now rank) (now rows) links e (unary DisconnectHole s e) ⌝ }
-    ensures { λ r. ⌜ Enters (now (parent .entry)) (now (rank .entry)) (now (rows .entry)) links e (unary DisconnectHole s e) r (now (parent .exit)) (now (rank .exit)) (now (rows .exit)) ⌝ }
+    requires { ⌜ Ready (part (now parent) (now rows) e links) e (unary DisconnectHole s e) ⌝ }
+    ensures { λ r. ⌜ (
+        let was = part (now (parent .entry)) (now (rows .entry)) e links in
+        let is = part (now (parent .exit)) (now (rows .exit)) (r .entries) links in
+        Enters was (unary DisconnectHole s e) r is) ⌝ }
 {
-    let gives = from_to(e, e + 6);
+    let gives = Arrow {
+        source: e,
+        target: e + 6,
+    };
     let first = disconnect_rule(s, e + 4, e + 5, 0);
     let a = Bound::Product(POWER_256, e);
     let b = Bound::Product(e + 1, e + 2);
     let c = Bound::Product(e + 1, e + 3);
-    let two = add_two(parent, rank, rows, links, e, Bound::Free, Bound::Free);
-    let four = add_two(parent, rank, rows, links, two, Bound::Free, Bound::Free);
-    let entries = add_three(parent, rank, rows, links, four, a, b, c);
+    let two = add_two(parent, rows, links, e, Bound::Free, Bound::Free);
+    let four = add_two(parent, rows, links, two, Bound::Free, Bound::Free);
+    let entries = add_three(parent, rows, links, four, a, b, c);
     Entered {
         entries,
         gives,
@@ -468,19 +530,20 @@ pub fn disconnect_hole(
 }
 
 // A → B. A fail is the same.
-pub fn witness(
+pub(super) fn witness(
     parent: &mut [u16],
-    rank: &mut [u16],
     rows: &mut [u16],
     links: u16,
     e: u16,
 ) -> Entered
-    requires { ⌜ Ready (now parent) (now rank) (now rows) links e (leaf Witness e) ⌝ }
-    ensures { λ r. ⌜ Enters (now (parent .entry)) (now (rank .entry)) (now (rows .entry)) links e (leaf Witness e) r (now (parent .exit)) (now (rank .exit)) (now (rows .exit)) ⌝ }
+    requires { ⌜ Ready (part (now parent) (now rows) e links) e (leaf Witness e) ⌝ }
+    ensures { λ r. ⌜ (
+        let was = part (now (parent .entry)) (now (rows .entry)) e links in
+        let is = part (now (parent .exit)) (now (rows .exit)) (r .entries) links in
+        Enters was (leaf Witness e) r is) ⌝ }
 {
     enter_two(
         parent,
-        rank,
         rows,
         links,
         e,
@@ -492,11 +555,17 @@ pub fn witness(
 }
 
 // 1 → 2^(2^n). It adds no entry.
-pub fn word(parent: &[u16], rank: &[u16], rows: &[u16], links: u16, n: u16, e: u16) -> Entered
+pub(super) fn word(parent: &[u16], rows: &[u16], links: u16, n: u16, e: u16) -> Entered
     requires { ⌜ n ≤ 31 ⌝ }
-    ensures { λ r. ⌜ Enters (now (parent .entry)) (now (rank .entry)) (now (rows .entry)) links e (leaf (Word n) e) r (now (parent .entry)) (now (rank .entry)) (now (rows .entry)) ⌝ }
+    ensures { λ r. ⌜ (
+        let was = part (now (parent .entry)) (now (rows .entry)) e links in
+        let is = part (now (parent .entry)) (now (rows .entry)) (r .entries) links in
+        Enters was (leaf (Word n) e) r is) ⌝ }
 {
-    let gives = from_to(ONE, n + 1);
+    let gives = Arrow {
+        source: ONE,
+        target: n + 1,
+    };
     let first = says(0, 0, 0);
     Entered {
         entries: e,

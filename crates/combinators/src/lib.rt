@@ -2,21 +2,21 @@
 //
 // entries: entries added a few at a time. each: one function for each combinator.
 
-pub mod each;
-pub mod entries;
+mod each;
+mod entries;
 
 use nodes::Kind;
 use nodes::arrow::Adds;
 use nodes::arrow::Arrow;
 use nodes::arrow::Rule;
-use nodes::arrow::says;
 ghost use mathlib.Core.Path.{_≡_};
+ghost use mathlib.Core.List.{[]};
 ghost use Prim.Native.Nat.{_<_};
 ghost use lib.ListN.{length, getD};
-ghost use Rattle.nodes.specs.Layout.{says, Proper};
+ghost use Rattle.nodes.specs.Layout.{says, Proper, children};
 ghost use Rattle.nodes.specs.Coded.{node-of};
 ghost use Rattle.nodes.specs.Meant.{Countable, meant, meant-rule};
-ghost use Rattle.combinators.specs.Entering.{Ready, Enters};
+ghost use Rattle.combinators.specs.Entering.{part, Ready, Enters};
 
 // What a node's entries leave: how many entries there are then, the node's arrow, how many rules are still to be joined, and the
 // first of them.
@@ -28,16 +28,78 @@ pub struct Entered {
 }
 
 // Adds a node's entries. Its rules are joined by the caller, but for one that holds already.
-pub fn enter(
-    parent: &mut [u16],
-    rank: &mut [u16],
-    rows: &mut [u16],
-    links: u16,
-    row: Adds,
-) -> Entered
-    requires { ⌜ Ready (now parent) (now rank) (now rows) links (row .e) (meant row) ⌝ }
-    requires { ⌜ Proper (node-of (row .node)) ⌝ }
-    ensures { λ r. ⌜ Enters (now (parent .entry)) (now (rank .entry)) (now (rows .entry)) links (row .e) (meant row) r (now (parent .exit)) (now (rank .exit)) (now (rows .exit)) ⌝ }
+pub fn enter(parent: &mut [u16], rows: &mut [u16], links: u16, row: Adds) -> Entered
+    requires { ⌜ Ready (part (now parent) (now rows) (row .e) links) (row .e) (meant row) × Proper (node-of (row .node)) ⌝ }
+    ensures { λ r. ⌜ (
+        let was = part (now (parent .entry)) (now (rows .entry)) (row .e) links in
+        let is = part (now (parent .exit)) (now (rows .exit)) (r .entries) links in
+        Enters was (meant row) r is) ⌝ }
+{
+    let node = row.node;
+    let kind = node.kind;
+    match kind {
+        Kind::Iden | Kind::Unit | Kind::Witness | Kind::Fail | Kind::Word => {
+            enter_leaf(parent, rows, links, row)
+        }
+        Kind::Comp | Kind::Case | Kind::Pair | Kind::Disconnect => {
+            enter_binary(parent, rows, links, row)
+        }
+        _ => enter_unary(parent, rows, links, row),
+    }
+}
+
+// A node with no child.
+fn enter_leaf(parent: &mut [u16], rows: &mut [u16], links: u16, row: Adds) -> Entered
+    requires { ⌜ Ready (part (now parent) (now rows) (row .e) links) (row .e) (meant row) × Proper (node-of (row .node)) ⌝ }
+    requires { ⌜ length (children (node-of (row .node))) ≡ 0 ⌝ }
+    ensures { λ r. ⌜ (
+        let was = part (now (parent .entry)) (now (rows .entry)) (row .e) links in
+        let is = part (now (parent .exit)) (now (rows .exit)) (r .entries) links in
+        Enters was (meant row) r is) ⌝ }
+{
+    let node = row.node;
+    let kind = node.kind;
+    let e = row.e;
+    match kind {
+        Kind::Iden => each::iden(parent, rows, links, e),
+        Kind::Unit => each::unit(parent, rows, links, e),
+        Kind::Word => each::word(parent, rows, links, node.a, e),
+        _ => each::witness(parent, rows, links, e),
+    }
+}
+
+// A node with one child.
+fn enter_unary(parent: &mut [u16], rows: &mut [u16], links: u16, row: Adds) -> Entered
+    requires { ⌜ Ready (part (now parent) (now rows) (row .e) links) (row .e) (meant row) ⌝ }
+    requires { ⌜ length (children (node-of (row .node))) ≡ 1 ⌝ }
+    ensures { λ r. ⌜ (
+        let was = part (now (parent .entry)) (now (rows .entry)) (row .e) links in
+        let is = part (now (parent .exit)) (now (rows .exit)) (r .entries) links in
+        Enters was (meant row) r is) ⌝ }
+{
+    let node = row.node;
+    let kind = node.kind;
+    let s = row.s;
+    let e = row.e;
+    match kind {
+        Kind::InjL => each::injl(parent, rows, links, s, e),
+        Kind::InjR => each::injr(parent, rows, links, s, e),
+        Kind::Take => each::take(parent, rows, links, s, e),
+        Kind::Drop => each::drop(parent, rows, links, s, e),
+        Kind::AssertL => each::assertl(parent, rows, links, s, e),
+        Kind::AssertR => each::assertr(parent, rows, links, s, e),
+        _ => each::disconnect_hole(parent, rows, links, s, e),
+    }
+}
+
+// A node with two children.
+fn enter_binary(parent: &mut [u16], rows: &mut [u16], links: u16, row: Adds) -> Entered
+    requires { ⌜ Ready (part (now parent) (now rows) (row .e) links) (row .e) (meant row) ⌝ }
+    requires { ⌜ length (children (node-of (row .node))) ≡ 2 ⌝ }
+    ensures { λ r. ⌜ (
+        let was = part (now (parent .entry)) (now (rows .entry)) (row .e) links in
+        let is = part (now (parent .exit)) (now (rows .exit)) (r .entries) links in
+        Enters was (meant row) r is) ⌝ }
 {
     let node = row.node;
     let kind = node.kind;
@@ -45,22 +107,10 @@ pub fn enter(
     let t = row.t;
     let e = row.e;
     match kind {
-        Kind::Iden => each::iden(parent, rank, rows, links, e),
-        Kind::Unit => each::unit(parent, rank, rows, links, e),
-        Kind::InjL => each::injl(parent, rank, rows, links, s, e),
-        Kind::InjR => each::injr(parent, rank, rows, links, s, e),
-        Kind::Take => each::take(parent, rank, rows, links, s, e),
-        Kind::Drop => each::drop(parent, rank, rows, links, s, e),
-        Kind::Comp => each::comp(parent, rank, rows, links, s, t, e),
-        Kind::Case => each::case(parent, rank, rows, links, s, t, e),
-        Kind::AssertL => each::assertl(parent, rank, rows, links, s, e),
-        Kind::AssertR => each::assertr(parent, rank, rows, links, s, e),
-        Kind::Pair => each::pair(parent, rank, rows, links, s, t, e),
-        Kind::Disconnect => each::disconnect(parent, rank, rows, links, s, t, e),
-        Kind::DisconnectHole => each::disconnect_hole(parent, rank, rows, links, s, e),
-        Kind::Witness => each::witness(parent, rank, rows, links, e),
-        Kind::Fail => each::witness(parent, rank, rows, links, e),
-        Kind::Word => each::word(parent, rank, rows, links, node.a, e),
+        Kind::Comp => each::comp(parent, rows, links, s, t, e),
+        Kind::Case => each::case(parent, rows, links, s, t, e),
+        Kind::Pair => each::pair(parent, rows, links, s, t, e),
+        _ => each::disconnect(parent, rows, links, s, t, e),
     }
 }
 
@@ -79,7 +129,6 @@ pub fn rule_at(row: Adds, i: u16) -> Rule
         Kind::AssertL => each::assertl_rule(s, e, i),
         Kind::AssertR => each::assertr_rule(s, e, i),
         Kind::Disconnect => each::disconnect_rule(s, e + 2, e + 3, i),
-        Kind::DisconnectHole => each::disconnect_rule(s, e + 4, e + 5, i),
-        _ => says(0, 0, 0),
+        _ => each::disconnect_rule(s, e + 4, e + 5, i),
     }
 }

@@ -1,9 +1,6 @@
 // Arrows and rules, on numbers alone. What each node adds to the class table is in the crate `combinators`.
 
 use super::Coded;
-ghost use mathlib.Core.Path.{_≡_};
-ghost use Rattle.nodes.specs.Layout.{says, arrow};
-ghost use Rattle.nodes.specs.Meant.{meant-rule};
 
 // A node's source and target, as entries.
 pub struct Arrow {
@@ -25,16 +22,4 @@ pub struct Adds {
     pub s: Arrow,
     pub t: Arrow,
     pub e: u16,
-}
-
-pub fn says(number: u16, one: u16, other: u16) -> Rule
-    ensures { λ r. ⌜ meant-rule r ≡ says number one other ⌝ }
-{
-    Rule { number, one, other }
-}
-
-pub fn from_to(source: u16, target: u16) -> Arrow
-    ensures { λ r. ⌜ r ≡ arrow source target ⌝ }
-{
-    Arrow { source, target }
 }

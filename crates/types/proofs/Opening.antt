@@ -27,10 +27,10 @@ module _ {n : ℕ} {p r rows : List ℕ} (h : 33 ≤ n) (small : n < 2 ^ 16) (ep
   fresh-is : laid p r rows (replicate (3 * length p) 0) 0 0 ≡ fresh (length p)
   fresh-is = rw (rows-are, ep, er, column-is 0 (omega arith), column-is 1 (omega arith), column-is 2 (omega arith), column-is 3 (omega arith))
 
-  pub opening-begins : Adding p r (column 3 rows) (column 0 rows) (column 1 rows) (column 2 rows) 0 0 standing p r (column 3 rows) (column 0 rows) (column 1 rows) (column 2 rows) 0 0
+  pub opening-begins : Adding p r (shapes rows) (kinds rows) (lefts rows) (rights rows) 0 0 standing p r (shapes rows) (kinds rows) (lefts rows) (rights rows) 0 0
   opening-begins = adding-begins (replicate (3 * length p) 0) (rw fresh-is (fresh-enterable (length p) (omega (arith, rows-are)) (omega (arith, rows-are))))
 
-  pub opening-ends : {p′ r′ s′ k′ l′ q′ : List ℕ} {i : ℕ} → Adding p r (column 3 rows) (column 0 rows) (column 1 rows) (column 2 rows) 0 0 standing p′ r′ s′ k′ l′ q′ i i → 33 ≤ i →
+  pub opening-ends : {p′ r′ s′ k′ l′ q′ : List ℕ} {i : ℕ} → Adding p r (shapes rows) (kinds rows) (lefts rows) (rights rows) 0 0 standing p′ r′ s′ k′ l′ q′ i i → 33 ≤ i →
       table p′ r′ s′ k′ l′ q′ (replicate (3 * length p) 0) 33 0 ≡ entered (fresh (length p)) standing
   opening-ends {i = i} inv all =
       let last : i ≡ 33 = omega (arith, inv .passed, standing-length) in

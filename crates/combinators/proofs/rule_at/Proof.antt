@@ -1,9 +1,22 @@
--- `combinators::rule_at` meets its contract: each arm's node is what the match told; the nodes of the last arm have one rule at most.
-use mathlib.Core.Path.{_∙_}
-use Rattle.combinators.proofs.Few.{only-first}
+-- `combinators::rule_at` meets its contract: each arm's node is what the match told.
+use mathlib.Core.Path.{_≡_, sym, ap, _∙_, subst}
+use Prim.Native.Nat.{_<_}
+use lib.ListN.{length, getD}
+use Rattle.nodes.specs.Layout.{Row, says}
+use Rattle.nodes.specs.Meant.{meant}
+use Rattle.nodes.specs.declared.Node.the-variants.{DisconnectHole as HoleNode}
+use Rattle.combinators.specs.Entering.{unary}
+use Rattle.combinators.proofs.Arity.{more-rules}
 use borrow.Author.Needs.{needs}
 use Rattle.combinators.proofs.rule_at.Statement.{statement}
 use Rattle.combinators.proofs.rule_at.Tie as tie
+
+-- the row of the last arm
+last-row : (c : tie.At-match-keys5) → let row = c .before .before .before .before .args .row in meant row ≡ unary HoleNode (row .s) (row .e)
+last-row c =
+    let start = c .before .before .before .before in
+    let row = start .args .row in
+    more-rules (row .node .kind) (row .node .a) (row .node .b) (row .s) (row .t) (row .e) (start .args .i) (c .match .keys5) (start .pre .1) (start .pre .2)
 
 enum-told : tie.Need-enum-told
 enum-told c = search needs
@@ -35,9 +48,6 @@ add-disconnect-rule-2 c = search needs
 disconnect-rule-requires : tie.Need-disconnect-rule-requires
 disconnect-rule-requires c κs = rw (c .enum-told4 .given .1) at (c .before .before .before .before .before .pre .2)
 
-enum-told-5 : tie.Need-enum-told-5
-enum-told-5 c = search needs
-
 add-disconnect-rule-3 : tie.Need-add-disconnect-rule-3
 add-disconnect-rule-3 c = search needs
 
@@ -45,10 +55,7 @@ add-disconnect-rule-4 : tie.Need-add-disconnect-rule-4
 add-disconnect-rule-4 c = search needs
 
 disconnect-rule-requires-2 : tie.Need-disconnect-rule-requires-2
-disconnect-rule-requires-2 c κs = rw (c .enum-told5 .given .1) at (c .before .before .before .before .before .pre .2)
-
-says-requires : tie.Need-says-requires
-says-requires c κs = search needs
+disconnect-rule-requires-2 c κs = subst (λ (row : Row). c .before .before .before .before .args .i < length (row .needs)) (last-row (c)) (c .before .before .before .before .pre .2)
 
 returns : tie.Need-returns
 returns c = rw (c .before .enum-told .given .1) (c .case-rule .ensures)
@@ -63,10 +70,7 @@ returns-4 : tie.Need-returns-4
 returns-4 c = rw (c .before .enum-told4 .given .1) (c .disconnect-rule .ensures)
 
 returns-5 : tie.Need-returns-5
-returns-5 c = rw (c .before .enum-told5 .given .1) (c .disconnect-rule2 .ensures)
-
-returns-6 : tie.Need-returns-6
-returns-6 c = let row = c .before .before .before .before .before .args .row in c .says .ensures ∙ only-first (row .node .kind) (row .node .a) (row .node .b) (row .s) (row .t) (row .e) _ (c .before .match .keys6) (c .before .before .before .before .before .pre .1)
+returns-5 c = c .disconnect-rule2 .ensures ∙ ap (λ (row : Row). getD (row .needs) (c .before .before .before .before .before .args .i) (says 0 0 0)) (sym (last-row (c .before)))
 
 pub rule-at-spec : {M : Type 1} → statement M
 rule-at-spec =
@@ -82,14 +86,11 @@ rule-at-spec =
     add-disconnect-rule
     add-disconnect-rule-2
     disconnect-rule-requires
-    enum-told-5
     add-disconnect-rule-3
     add-disconnect-rule-4
     disconnect-rule-requires-2
-    says-requires
     returns
     returns-2
     returns-3
     returns-4
-    returns-5
-    returns-6)
+    returns-5)

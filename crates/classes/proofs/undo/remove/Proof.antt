@@ -1,14 +1,17 @@
 -- `classes::undo::remove` meets its contract: the row written anew with 0.
-use Prim.Native.Nat.{ℕ, _+_, _-_, _*_, _<_}
+use mathlib.Core.Path.{refl}
+use mathlib.Core.List.{[], _∷_}
+use Prim.Native.Nat.{ℕ, _-_, _<_}
 use native.Mathlib.Omega.{arith}
-use lib.ListN.{length, length-set}
-use Rattle.classes.proofs.Columns.{length-column, rewritten-0, rewritten-1, rewritten-2, rewritten-3}
+use lib.ListN.{length-set}
+use Rattle.classes.specs.Columns.{kind-at, left-at, right-at, shape-at, height}
+use Rattle.classes.proofs.Columns.{length-column, written, rewritten-column}
 use borrow.Author.Needs.{needs}
 use Rattle.classes.proofs.undo.remove.Statement.{statement}
 use Rattle.classes.proofs.undo.remove.Tie as tie
 
-there : (c : tie.Start) → 4 * (c .args .entries - 1) + 3 < length (c .args .rows .now)
-there c = omega (arith, length-column 3 (c .args .rows .now), c .pre .0 .shape-rows, c .pre .1)
+there : (c : tie.Start) → c .args .entries - 1 < height (c .args .rows .now)
+there c = omega (arith, length-column shape-at (c .args .rows .now), c .pre .0 .shape-rows, c .pre .1)
 
 sub-e : tie.Need-sub-e
 sub-e c = search needs
@@ -31,14 +34,17 @@ mul-rank c = search needs
 slice-write-rank : tie.Need-slice-write-rank
 slice-write-rank c = search needs
 
+add-rows : tie.Need-add-rows
+add-rows c = search needs
+
 mul-rows : tie.Need-mul-rows
 mul-rows c = search needs
 
 slice-write-rows : tie.Need-slice-write-rows
 slice-write-rows c = omega (arith, there c)
 
-add-rows : tie.Need-add-rows
-add-rows c = search needs
+add-rows-2 : tie.Need-add-rows-2
+add-rows-2 c = search needs
 
 mul-rows-2 : tie.Need-mul-rows-2
 mul-rows-2 c = search needs
@@ -46,8 +52,8 @@ mul-rows-2 c = search needs
 slice-write-rows-2 : tie.Need-slice-write-rows-2
 slice-write-rows-2 c = simp length-set (omega (arith, there c))
 
-add-rows-2 : tie.Need-add-rows-2
-add-rows-2 c = search needs
+add-rows-3 : tie.Need-add-rows-3
+add-rows-3 c = search needs
 
 mul-rows-3 : tie.Need-mul-rows-3
 mul-rows-3 c = search needs
@@ -55,8 +61,8 @@ mul-rows-3 c = search needs
 slice-write-rows-3 : tie.Need-slice-write-rows-3
 slice-write-rows-3 c = simp length-set (omega (arith, there c))
 
-add-rows-3 : tie.Need-add-rows-3
-add-rows-3 c = search needs
+add-rows-4 : tie.Need-add-rows-4
+add-rows-4 c = search needs
 
 mul-rows-4 : tie.Need-mul-rows-4
 mul-rows-4 c = search needs
@@ -74,7 +80,10 @@ same-length-3 : tie.Need-same-length-3
 same-length-3 c = search needs
 
 returns : tie.Need-returns
-returns c = λ trail n. rw (rewritten-0 (c .args .rows .now) (c .args .entries - 1) 0 0 0 0, rewritten-1 (c .args .rows .now) (c .args .entries - 1) 0 0 0 0, rewritten-2 (c .args .rows .now) (c .args .entries - 1) 0 0 0 0, rewritten-3 (c .args .rows .now) (c .args .entries - 1) 0 0 0 0)
+unfolding written
+returns c = 
+    let blank = rewritten-column (c .args .rows .now) (c .args .entries - 1) (0 ∷ 0 ∷ 0 ∷ 0 ∷ []) refl in
+    λ trail n. rw (blank kind-at (omega arith), blank left-at (omega arith), blank right-at (omega arith), blank shape-at (omega arith))
 
 pub remove-spec : {M : Type 1} → statement M
 remove-spec =
@@ -87,15 +96,16 @@ remove-spec =
     slice-write-parent
     mul-rank
     slice-write-rank
+    add-rows
     mul-rows
     slice-write-rows
-    add-rows
+    add-rows-2
     mul-rows-2
     slice-write-rows-2
-    add-rows-2
+    add-rows-3
     mul-rows-3
     slice-write-rows-3
-    add-rows-3
+    add-rows-4
     mul-rows-4
     slice-write-rows-4
     same-length

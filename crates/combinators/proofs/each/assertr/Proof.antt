@@ -1,26 +1,23 @@
--- `combinators::each::assertr` meets its contract: the entries, and all rules are left.
+-- `combinators::each::assertr` meets its contract: the entries of its half, and all rules are left.
 use mathlib.Core.Path.{refl}
 use borrow.Author.Needs.{needs}
 use Rattle.combinators.proofs.each.assertr.Statement.{statement}
 use Rattle.combinators.proofs.each.assertr.Tie as tie
 
-add-from-to : tie.Need-add-from-to
-add-from-to c = search needs
-
-add-from-to-2 : tie.Need-add-from-to-2
-add-from-to-2 c = search needs
-
-from-to-requires : tie.Need-from-to-requires
-from-to-requires c κs = search needs
-
-assertr-rule-requires : tie.Need-assertr-rule-requires
-assertr-rule-requires c κs = search needs
+add-t10 : tie.Need-add-t10
+add-t10 c = search needs
 
 add-t11 : tie.Need-add-t11
 add-t11 c = search needs
 
-add-t12 : tie.Need-add-t12
-add-t12 c = search needs
+assertr-rule-requires : tie.Need-assertr-rule-requires
+assertr-rule-requires c κs = search needs
+
+add-t10-2 : tie.Need-add-t10-2
+add-t10-2 c = search needs
+
+add-t11-2 : tie.Need-add-t11-2
+add-t11-2 c = search needs
 
 add-case-requires : tie.Need-add-case-requires
 add-case-requires c κs = search needs
@@ -31,24 +28,19 @@ same-length c = search needs
 same-length-2 : tie.Need-same-length-2
 same-length-2 c = search needs
 
-same-length-3 : tie.Need-same-length-3
-same-length-3 c = search needs
-
 returns : tie.Need-returns
-returns c = λ trail. record { is = c .before .before .before .before .before .before .add-case .ensures trail; gives = c .before .before .before .before .before .before .before .before .before .before .before .from-to .ensures; left = (refl, c .before .before .before .before .before .before .before .before .before .before .assertr-rule .ensures) }
+returns c = λ rank trail able. record { is = c .before .before .before .before .add-case .ensures rank trail able; gives = refl; left = (refl, c .before .before .before .before .before .before .before .assertr-rule .ensures) }
 
 pub assertr-spec : {M : Type 1} → statement M
 assertr-spec =
     tie.close
     (tie.spec
-    add-from-to
-    add-from-to-2
-    from-to-requires
-    assertr-rule-requires
+    add-t10
     add-t11
-    add-t12
+    assertr-rule-requires
+    add-t10-2
+    add-t11-2
     add-case-requires
     same-length
     same-length-2
-    same-length-3
     returns)

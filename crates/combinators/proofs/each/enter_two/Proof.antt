@@ -1,4 +1,5 @@
 -- `combinators::each::enter_two` meets its contract: the entries, and no rule.
+use mathlib.Core.Path.{refl}
 use Rattle.combinators.specs.Entered.Meets.{done}
 use borrow.Author.Needs.{needs}
 use Rattle.combinators.proofs.each.enter_two.Statement.{statement}
@@ -6,9 +7,6 @@ use Rattle.combinators.proofs.each.enter_two.Tie as tie
 
 add-two-requires : tie.Need-add-two-requires
 add-two-requires c κs = search needs
-
-from-to-requires : tie.Need-from-to-requires
-from-to-requires c κs = search needs
 
 says-requires : tie.Need-says-requires
 says-requires c κs = search needs
@@ -19,20 +17,9 @@ same-length c = search needs
 same-length-2 : tie.Need-same-length-2
 same-length-2 c = search needs
 
-same-length-3 : tie.Need-same-length-3
-same-length-3 c = search needs
-
 returns : tie.Need-returns
-returns c = λ trail. record { is = c .before .before .before .before .before .before .before .before .add-two .ensures trail; gives = c .before .from-to .ensures; left = done }
+returns c = λ rank trail able. record { is = c .before .before .before .before .before .add-two .ensures rank trail able; gives = refl; left = done }
 
 pub enter-two-spec : {M : Type 1} → statement M
 enter-two-spec =
-    tie.close
-    (tie.spec
-    add-two-requires
-    from-to-requires
-    says-requires
-    same-length
-    same-length-2
-    same-length-3
-    returns)
+    tie.close (tie.spec add-two-requires says-requires same-length same-length-2 returns)

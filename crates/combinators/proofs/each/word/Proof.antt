@@ -1,4 +1,4 @@
--- `combinators::each::word` meets its contract: no entry and no rule.
+-- `combinators::each::word` meets its contract: no entry, and no rule.
 use mathlib.Core.Path.{refl}
 use Rattle.combinators.specs.Entered.{entered}
 use Rattle.combinators.specs.Entered.Meets.{done}
@@ -6,18 +6,15 @@ use borrow.Author.Needs.{needs}
 use Rattle.combinators.proofs.each.word.Statement.{statement}
 use Rattle.combinators.proofs.each.word.Tie as tie
 
-add-from-to : tie.Need-add-from-to
-add-from-to c = search needs
-
-from-to-requires : tie.Need-from-to-requires
-from-to-requires c κs = search needs
+add-t8 : tie.Need-add-t8
+add-t8 c = search needs
 
 says-requires : tie.Need-says-requires
 says-requires c κs = search needs
 
 returns : tie.Need-returns
 unfolding entered
-returns c = λ trail. record { is = refl; gives = c .before .from-to .ensures; left = done }
+returns c = λ rank trail able. record { is = refl; gives = refl; left = done }
 
 pub word-spec : {M : Type 1} → statement M
-word-spec = tie.close (tie.spec add-from-to from-to-requires says-requires returns)
+word-spec = tie.close (tie.spec add-t8 says-requires returns)

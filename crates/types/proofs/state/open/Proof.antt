@@ -14,7 +14,7 @@ use Rattle.types.proofs.state.open.Statement.{statement}
 use Rattle.types.proofs.state.open.Tie as tie
 
 abbrev Inv-loop : tie.InvT-loop
-Inv-loop parent₀ rank₀ rows₀ i₀ parent rank rows i = (length rows ≡ length rows₀) × Adding parent₀ rank₀ (column 3 rows₀) (column 0 rows₀) (column 1 rows₀) (column 2 rows₀) 0 0 standing parent rank (column 3 rows) (column 0 rows) (column 1 rows) (column 2 rows) i i
+Inv-loop parent₀ rank₀ rows₀ i₀ parent rank rows i = (length rows ≡ length rows₀) × Adding parent₀ rank₀ (shapes rows₀) (kinds rows₀) (lefts rows₀) (rights rows₀) 0 0 standing parent rank (shapes rows) (kinds rows) (lefts rows) (rights rows) i i
 
 abbrev μ-loop : tie.MeasureT-loop
 μ-loop parent₀ rank₀ rows₀ i₀ parent rank rows i = 33 - i
