@@ -14,7 +14,8 @@ use Rattle.typing.specs.Types.{Ty}
 use Rattle.typing.specs.Finite.{Finite}
 use Rattle.typing.specs.Endless.{Endless}
 use Rattle.typing.specs.Listing.{TypeArrow, types-of, listing}
-use Rattle.closing.specs.Closings.{source-at, target-at, from-to, Typed, ClosedBy}
+use Rattle.nodes.specs.Kept.{source-at, target-at}
+use Rattle.closing.specs.Closings.{from-to, Typed, ClosedBy}
 use Rattle.closing.specs.declared.Closing.the-variants.{Types, Endless as NoTypes}
 use Rattle.nodes.specs.Layout.{rules-of}
 use Rattle.nodes.specs.declared.Node.{Node}

@@ -12,7 +12,8 @@ use Rattle.nodes.specs.declared.Record.the-variants.{Offer}
 use Rattle.types.specs.Answers.{Below, Answered}
 use Rattle.types.specs.Answers.Answered.{over-31, full, no-child, keeps, refuses}
 use Rattle.combinators.specs.Entered.{entered}
-use Rattle.types.specs.States.{Standing, row-numbers}
+use Rattle.nodes.specs.Kept.{row-numbers}
+use Rattle.types.specs.States.{Standing}
 use Rattle.types.specs.declared.Answer.{Answer}
 use Rattle.types.specs.declared.Answer.the-variants.{Kept, Malformed, Full, NoChild, Clashes}
 use Rattle.types.proofs.Stood.{Stood, stood, offer-fits, offer-clashes}

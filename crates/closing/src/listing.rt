@@ -1,11 +1,14 @@
 // All the nodes in order, and the listing: nodes, types, offset of the types, offset of the arrows, the types, the arrows.
 
 use super::Closing;
-use super::numbering::ROW;
+use super::WORK;
 use super::walk;
 use super::walk::NUMBERED;
 use super::walk::Visited;
 use classes::union_bound;
+use nodes::kept::NODE;
+use nodes::kept::SOURCE;
+use nodes::kept::TARGET;
 ghost use mathlib.Core.Path.{_≡_};
 ghost use mathlib.Core.List.{List, []};
 ghost use Prim.Native.Nat.{ℕ, _+_, _*_, _^_, _≤_, _<_};
@@ -15,16 +18,10 @@ ghost use Rattle.classes.specs.Table.{bounds};
 ghost use Rattle.classes.specs.Columns.{laid};
 ghost use Rattle.classes.specs.Made.{Stands};
 ghost use Rattle.typing.specs.Types.{Ty};
-ghost use Rattle.closing.specs.Closings.{source-at, target-at, ClosedBy};
+ghost use Rattle.nodes.specs.Kept.{source-at, target-at};
+ghost use Rattle.closing.specs.Closings.{ClosedBy};
 ghost use Rattle.closing.specs.Visiting.{Settled, VisitedBy};
 ghost use Rattle.closing.specs.Writing.{cleared, ArrowBy, Closable, AllBy, type-number, Numberable, ArrowsWritten, ListingWritten};
-
-// Numbers in a node's row, and where its source and target stand.
-pub const NODE: usize = 7;
-
-pub const SOURCE: usize = 3;
-
-pub const TARGET: usize = 4;
 
 // Where the types begin, and the numbers of each.
 const TYPES: u16 = 4;
@@ -35,7 +32,7 @@ fn clear(work: &mut [u16], entries: u16)
     requires { ⌜ 4 * entries ≤ length (now work) ⌝ }
     ensures { λ _. ⌜ now (work .exit) ≡ cleared (now (work .entry)) entries ⌝ }
 {
-    let end = ROW * (entries as usize);
+    let end = WORK * (entries as usize);
     let mut i: usize = 0;
     while i < end {
         work[i] = 0;
@@ -146,7 +143,7 @@ fn type_number(parent: &[u16], work: &[u16], a: u16) -> u16
     ensures { λ r. ⌜ r ≡ type-number (now (parent .entry)) (now (work .entry)) a ⌝ }
 {
     let class = union_bound::root(parent, a);
-    work[ROW * (class as usize)] - NUMBERED
+    work[WORK * (class as usize)] - NUMBERED
 }
 
 // Writes the arrows, as the numbers of their types.

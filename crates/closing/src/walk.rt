@@ -1,7 +1,7 @@
 // The walk down the classes. A path of open classes takes the place of calls, so no depth of types needs stack.
 
+use super::WORK;
 use super::numbering;
-use super::numbering::ROW;
 use classes::Bound;
 use classes::context;
 use classes::union_bound;
@@ -12,12 +12,12 @@ ghost use Prim.Native.Nat.{ℕ, _+_, _-_, _*_, _<_};
 ghost use lib.ListN.{length, getD};
 ghost use Rattle.classes.specs.Forced.{Rule};
 ghost use Rattle.classes.specs.Table.{root-in};
-ghost use Rattle.classes.specs.Columns.{column, laid};
+ghost use Rattle.classes.specs.Columns.{laid};
 ghost use Rattle.classes.specs.Turning.{Rooted};
 ghost use Rattle.classes.specs.Made.{Stands};
 ghost use Rattle.typing.specs.Types.{Ty};
 ghost use Rattle.closing.specs.Visiting.{Settled, VisitedBy};
-ghost use Rattle.closing.specs.Walking.{mark-at, opened, seen, PartsBelow, Seeable, Steppable, Completed, Parted, Stepped};
+ghost use Rattle.closing.specs.Walking.{mark-at, top-of, opened, seen-in, PartsBelow, Seeable, Steppable, Completed, Parted, Stepped};
 
 // Where the path stands among an entry's numbers of working memory; the mark comes first.
 const PATH: usize = 1;
@@ -37,11 +37,10 @@ pub enum Turn {
 
 // The bound that the class of r shows, its parts' representatives in place of its parts.
 fn look(parent: &[u16], rows: &[u16], r: u16) -> Bound
-    requires { ⌜ Seeable (now parent) (column 3 (now rows)) (column 0 (now rows)) (column 1 (now rows)) (column 2 (now rows)) r ⌝ }
-    ensures { λ b. ⌜ b ≡ seen (now (parent .entry)) (column 3 (now (rows .entry))) (column 0 (now (rows .entry))) (column 1 (now (rows .entry))) (column 2 (now (rows .entry))) r ⌝ }
+    requires { ⌜ Seeable (now parent) (now rows) r ⌝ }
+    ensures { λ b. ⌜ b ≡ seen-in (now (parent .entry)) (now (rows .entry)) r ⌝ }
 {
-    let s = rows[4 * (r as usize) + 3];
-    match context::bound(rows, s) {
+    match context::shown(rows, r) {
         Bound::Free => Bound::Free,
         Bound::Unit => Bound::Unit,
         Bound::Sum(a, b) => {
@@ -58,8 +57,8 @@ fn open(work: &mut [u16], depth: u16, a: u16)
     requires { ⌜ (4 * depth + 1 < length (now work)) × (4 * a < length (now work)) ⌝ }
     ensures { λ _. ⌜ now (work .exit) ≡ opened (now (work .entry)) depth a ⌝ }
 {
-    work[ROW * (a as usize)] = OPEN;
-    work[ROW * (depth as usize) + PATH] = a;
+    work[WORK * (a as usize)] = OPEN;
+    work[WORK * (depth as usize) + PATH] = a;
 }
 
 // Numbers the class at the top, whose type is these three numbers, and takes it off the path.
@@ -79,7 +78,7 @@ fn complete(
     ensures { λ x. ⌜ Completed entries (now (work .entry)) (now (listing .entry)) depth count top k l r x (now (work .exit)) (now (listing .exit)) ⌝ }
 {
     let t = numbering::number(work, listing, entries, count, k, l, r);
-    work[ROW * (top as usize)] = t + NUMBERED;
+    work[WORK * (top as usize)] = t + NUMBERED;
     if t == count {
         return Turn::Goes(depth - 1, count + 1);
     }
@@ -102,7 +101,7 @@ fn part(
     requires { ⌜ (top < entries) × (l < entries) × (r < entries) ⌝ }
     ensures { λ x. ⌜ Parted entries (now (work .entry)) (now (listing .entry)) depth count top k l r x (now (work .exit)) (now (listing .exit)) ⌝ }
 {
-    let one = work[ROW * (l as usize)];
+    let one = work[WORK * (l as usize)];
     if one == UNSEEN {
         open(work, depth, l);
         return Turn::Goes(depth + 1, count);
@@ -110,7 +109,7 @@ fn part(
     if one == OPEN {
         return Turn::Cycle;
     }
-    let other = work[ROW * (r as usize)];
+    let other = work[WORK * (r as usize)];
     if other == UNSEEN {
         open(work, depth, r);
         return Turn::Goes(depth + 1, count);
@@ -142,13 +141,15 @@ fn step(
     count: u16,
 ) -> Turn
     requires { ⌜ Steppable entries (now work) (now listing) depth count ⌝ }
-    requires { ⌜ Seeable (now parent) (column 3 (now rows)) (column 0 (now rows)) (column 1 (now rows)) (column 2 (now rows)) (getD (now work) (4 * (depth - 1) + 1) 0)
-        × PartsBelow entries (seen (now parent) (column 3 (now rows)) (column 0 (now rows)) (column 1 (now rows)) (column 2 (now rows)) (getD (now work) (4 * (depth - 1) + 1) 0)) ⌝ }
-    ensures { λ x. ⌜ Stepped entries (now (work .entry)) (now (listing .entry)) depth count (getD (now (work .entry)) (4 * (depth - 1) + 1) 0)
-        (seen (now (parent .entry)) (column 3 (now (rows .entry))) (column 0 (now (rows .entry))) (column 1 (now (rows .entry))) (column 2 (now (rows .entry))) (getD (now (work .entry)) (4 * (depth - 1) + 1) 0))
-        x (now (work .exit)) (now (listing .exit)) ⌝ }
+    requires { ⌜ (
+        let top = top-of (now work) depth in
+        Seeable (now parent) (now rows) top × PartsBelow entries (seen-in (now parent) (now rows) top)) ⌝ }
+    ensures { λ x. ⌜ (
+        let top = top-of (now (work .entry)) depth in
+        let bound = seen-in (now (parent .entry)) (now (rows .entry)) top in
+        Stepped entries (now (work .entry)) (now (listing .entry)) depth count top bound x (now (work .exit)) (now (listing .exit))) ⌝ }
 {
-    let top = work[ROW * ((depth - 1) as usize) + PATH];
+    let top = work[WORK * ((depth - 1) as usize) + PATH];
     match look(parent, rows, top) {
         Bound::Free => complete(work, listing, entries, depth, count, top, 0, 0, 0),
         Bound::Unit => complete(work, listing, entries, depth, count, top, 0, 0, 0),
@@ -204,5 +205,5 @@ pub(super) fn is_numbered(parent: &[u16], work: &[u16], a: u16) -> bool
     requires { ⌜ Rooted (now parent) a × (4 * root-in (now parent) a < length (now work)) ⌝ }
     ensures { λ r. ⌜ (r ≡ true → mark-at (now (work .entry)) (root-in (now (parent .entry)) a) ≡ 0 → ⊥) × (r ≡ false → mark-at (now (work .entry)) (root-in (now (parent .entry)) a) ≡ 0) ⌝ }
 {
-    work[ROW * (union_bound::root(parent, a) as usize)] != UNSEEN
+    work[WORK * (union_bound::root(parent, a) as usize)] != UNSEEN
 }

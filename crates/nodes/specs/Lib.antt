@@ -2,5 +2,6 @@
 pub mod Layout
 pub mod Records
 pub mod Coded
+pub mod Kept
 pub mod Texts
 pub mod Meant

@@ -1,8 +1,9 @@
 // What a node is, on numbers alone: the 8 bytes of a record, its arrow and its rules, the rules in words. No table is touched here.
 //
-// records: what 8 bytes ask for. arrow: arrows and rules. text: the seven rule texts.
+// records: what 8 bytes ask for. arrow: arrows and rules. kept: what stands where in a kept node's row. text: the seven rule texts.
 
 pub mod arrow;
+pub mod kept;
 pub mod records;
 pub mod text;
 

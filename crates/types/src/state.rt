@@ -1,8 +1,7 @@
 // The state and what offers and take-backs do to it.
 //
-// The core works on lent tables, always in this order: the class table's parent, rank, rows (four numbers an entry), trail and
-// pending, then nodes: a row of seven numbers for each node kept (kind, a, b, source, target, and the entries and links before
-// it). The live counts go in and out by value. How many nodes there is room for is the number of rows of `nodes`.
+// The core works on lent tables, always in this order: the class table's parent, rank, rows, trail and pending, then nodes: a row for
+// each node kept. The live counts go in and out by value. How many nodes there is room for is the number of rows of `nodes`.
 
 use super::Answer;
 use classes::Bound;
@@ -13,21 +12,26 @@ use classes::context::Joined;
 use classes::undo;
 use closing::Closing;
 use closing::listing;
-use closing::listing::NODE;
-use closing::listing::SOURCE;
-use closing::listing::TARGET;
 use nodes::Coded;
 use nodes::Kind;
 use nodes::arrow::Adds;
 use nodes::arrow::Arrow;
 use nodes::arrow::Rule;
+use nodes::kept::ENTRIES_BEFORE;
+use nodes::kept::FIRST;
+use nodes::kept::KIND;
+use nodes::kept::LINKS_BEFORE;
+use nodes::kept::NODE;
+use nodes::kept::SECOND;
+use nodes::kept::SOURCE;
+use nodes::kept::TARGET;
 ghost use mathlib.Core.Path.{_≡_};
 ghost use mathlib.Core.Bool.{true, false};
 ghost use mathlib.Core.List.{List};
 ghost use Prim.Native.Nat.{ℕ, _+_, _*_, _^_, _≤_, _<_};
 ghost use lib.ListN.{length, getD, replicate};
-ghost use Rattle.classes.specs.Table.{table, fresh};
-ghost use Rattle.classes.specs.Columns.{laid};
+ghost use Rattle.classes.specs.Table.{fresh};
+ghost use Rattle.classes.specs.Columns.{laid, lent, width};
 ghost use Rattle.classes.specs.Promises.{made-links};
 ghost use Rattle.classes.specs.declared.Bound.the-variants.{Free};
 ghost use Rattle.nodes.specs.Layout.{children, standing, Proper};
@@ -37,16 +41,12 @@ ghost use Rattle.nodes.specs.Meant.{Countable, meant, meant-rule};
 ghost use Rattle.combinators.specs.Entered.{entered};
 ghost use Rattle.combinators.specs.Entering.{Left};
 ghost use Rattle.types.specs.Answers.{Below};
-ghost use Rattle.types.specs.States.{state, row-numbers, Opened};
+ghost use Rattle.nodes.specs.Kept.{node-width, row-numbers, source-at, target-at};
+ghost use Rattle.types.specs.States.{held, Opened};
 ghost use Rattle.types.specs.Applying.{row-written, rows-cleared, Meetable, Meeting, met-links};
 ghost use Rattle.types.specs.Calls.{Called};
 ghost use Rattle.types.specs.Calls.{Closing as Closes};
 ghost use Rattle.nodes.specs.declared.Record.the-variants.{Offer, TakeBack};
-
-// Where the entries and the links before it stand in a node's row.
-const ENTRIES: usize = 5;
-
-const LINKS: usize = 6;
 
 // The entries that stand from the start: 1, and 2^(2^n) for n from 0 to 31.
 const STANDING: u16 = 33;
@@ -144,8 +144,8 @@ fn children_below(n: Coded, next: u16) -> bool
 
 // The arrow of the node with this number, as its row has it.
 fn arrow_at(nodes: &[u16], i: u16) -> Arrow
-    requires { ⌜ 7 * i + 7 ≤ length (now nodes) ⌝ }
-    ensures { λ r. ⌜ r ≡ from-to (getD (now (nodes .entry)) (7 * i + 3) 0) (getD (now (nodes .entry)) (7 * i + 4) 0) ⌝ }
+    requires { ⌜ node-width * i + node-width ≤ length (now nodes) ⌝ }
+    ensures { λ r. ⌜ r ≡ from-to (source-at (now (nodes .entry)) i) (target-at (now (nodes .entry)) i) ⌝ }
 {
     let row = NODE * (i as usize);
     Arrow {
@@ -155,22 +155,22 @@ fn arrow_at(nodes: &[u16], i: u16) -> Arrow
 }
 
 fn write_row(nodes: &mut [u16], i: u16, n: Coded, gives: Arrow, before: Mark)
-    requires { ⌜ (7 * i + 7 ≤ length (now nodes)) × Regular n ⌝ }
+    requires { ⌜ (node-width * i + node-width ≤ length (now nodes)) × Regular n ⌝ }
     ensures { λ _. ⌜ now (nodes .exit) ≡ row-written (now (nodes .entry)) i (row-numbers (node-of n) gives (before .entries) (before .links)) ⌝ }
 {
     let row = NODE * (i as usize);
-    nodes[row] = kind_number(n);
-    nodes[row + 1] = n.a;
-    nodes[row + 2] = n.b;
+    nodes[row + KIND] = kind_number(n);
+    nodes[row + FIRST] = n.a;
+    nodes[row + SECOND] = n.b;
     nodes[row + SOURCE] = gives.source;
     nodes[row + TARGET] = gives.target;
-    nodes[row + ENTRIES] = before.entries;
-    nodes[row + LINKS] = before.links;
+    nodes[row + ENTRIES_BEFORE] = before.entries;
+    nodes[row + LINKS_BEFORE] = before.links;
 }
 
 // Clears the rows from number `from` up to `to`.
 fn clear_rows(nodes: &mut [u16], from: u16, to: u16)
-    requires { ⌜ (from ≤ to) × (7 * to ≤ length (now nodes)) ⌝ }
+    requires { ⌜ (from ≤ to) × (node-width * to ≤ length (now nodes)) ⌝ }
     ensures { λ _. ⌜ now (nodes .exit) ≡ rows-cleared (now (nodes .entry)) from to ⌝ }
 {
     let mut i = NODE * (from as usize);
@@ -217,12 +217,12 @@ fn meet(
     count: u16,
     first: Rule,
 ) -> Met
-    requires { ⌜ Meetable (laid (now parent) (now rank) (now rows) (now trail) (live .entries) (live .links)) (now pending) (meant row .needs) ⌝ }
-    requires { ⌜ Countable row × Left (laid (now parent) (now rank) (now rows) (now trail) (live .entries) (live .links)) (meant row .needs) count (meant-rule first) ⌝ }
-    ensures { λ r. ⌜ Meeting
-        (laid (now (parent .entry)) (now (rank .entry)) (now (rows .entry)) (now (trail .entry)) (live .entries) (live .links))
-        (meant row .needs) r
-        (laid (now (parent .exit)) (now (rank .exit)) (now (rows .exit)) (now (trail .exit)) (live .entries) (met-links r)) ⌝ }
+    requires { ⌜ Meetable (lent (now parent) (now rank) (now rows) (now trail) live) (now pending) (meant row .needs) ⌝ }
+    requires { ⌜ Countable row × Left (lent (now parent) (now rank) (now rows) (now trail) live) (meant row .needs) count (meant-rule first) ⌝ }
+    ensures { λ r. ⌜ (
+        let was = lent (now (parent .entry)) (now (rank .entry)) (now (rows .entry)) (now (trail .entry)) live in
+        let is = laid (now (parent .exit)) (now (rank .exit)) (now (rows .exit)) (now (trail .exit)) (live .entries) (met-links r) in
+        Meeting was (meant row .needs) r is) ⌝ }
 {
     let entries = live.entries;
     let mut links = live.links;
@@ -267,11 +267,12 @@ pub fn offer(
     live: Live,
     n: Coded,
 ) -> Step
-    requires { ⌜ ((most : ℕ) × Opened most (state (laid (now parent) (now rank) (now rows) (now trail) (live .entries) (live .links)) (now nodes) (live .kept))) ⌝ }
+    requires { ⌜ ((most : ℕ) × Opened most (held (now parent) (now rank) (now rows) (now trail) (now nodes) live)) ⌝ }
     requires { ⌜ Regular n × Proper (node-of n) × (2 * length (now parent) ≤ length (now pending)) ⌝ }
-    ensures { λ r. ⌜ ((most : ℕ) (o : Opened most (state (laid (now (parent .entry)) (now (rank .entry)) (now (rows .entry)) (now (trail .entry)) (live .entries) (live .links)) (now (nodes .entry)) (live .kept))) →
-        Called most (state (laid (now (parent .entry)) (now (rank .entry)) (now (rows .entry)) (now (trail .entry)) (live .entries) (live .links)) (now (nodes .entry)) (live .kept)) o (Offer (node-of n)) (r .answer)
-        (state (laid (now (parent .exit)) (now (rank .exit)) (now (rows .exit)) (now (trail .exit)) (r .live .entries) (r .live .links)) (now (nodes .exit)) (r .live .kept))) ⌝ }
+    ensures { λ r. ⌜ (
+        let was = held (now (parent .entry)) (now (rank .entry)) (now (rows .entry)) (now (trail .entry)) (now (nodes .entry)) live in
+        let is = held (now (parent .exit)) (now (rank .exit)) (now (rows .exit)) (now (trail .exit)) (now (nodes .exit)) (r .live) in
+        (most : ℕ) (o : Opened most was) → Called most was o (Offer (node-of n)) (r .answer) is) ⌝ }
 {
     let kept = live.kept;
     if nodes.len() <= NODE * (kept as usize) {
@@ -298,7 +299,7 @@ pub fn offer(
         t,
         e: live.entries,
     };
-    let entered = combinators::enter(parent, rank, rows, live.links, row);
+    let entered = combinators::enter(parent, rows, live.links, row);
     let entries = entered.entries;
     let links = live.links;
     let now = Mark { entries, links };
@@ -353,10 +354,11 @@ pub fn take_back(
     live: Live,
     to: u16,
 ) -> Step
-    requires { ⌜ ((most : ℕ) × Opened most (state (laid (now parent) (now rank) (now rows) (now trail) (live .entries) (live .links)) (now nodes) (live .kept))) ⌝ }
-    ensures { λ r. ⌜ ((most : ℕ) (o : Opened most (state (laid (now (parent .entry)) (now (rank .entry)) (now (rows .entry)) (now (trail .entry)) (live .entries) (live .links)) (now (nodes .entry)) (live .kept))) →
-        Called most (state (laid (now (parent .entry)) (now (rank .entry)) (now (rows .entry)) (now (trail .entry)) (live .entries) (live .links)) (now (nodes .entry)) (live .kept)) o (TakeBack to) (r .answer)
-        (state (laid (now (parent .exit)) (now (rank .exit)) (now (rows .exit)) (now (trail .exit)) (r .live .entries) (r .live .links)) (now (nodes .exit)) (r .live .kept))) ⌝ }
+    requires { ⌜ ((most : ℕ) × Opened most (held (now parent) (now rank) (now rows) (now trail) (now nodes) live)) ⌝ }
+    ensures { λ r. ⌜ (
+        let was = held (now (parent .entry)) (now (rank .entry)) (now (rows .entry)) (now (trail .entry)) (now (nodes .entry)) live in
+        let is = held (now (parent .exit)) (now (rank .exit)) (now (rows .exit)) (now (trail .exit)) (now (nodes .exit)) (r .live) in
+        (most : ℕ) (o : Opened most was) → Called most was o (TakeBack to) (r .answer) is) ⌝ }
 {
     let kept = live.kept;
     if kept < to {
@@ -372,8 +374,8 @@ pub fn take_back(
         };
     }
     let row = NODE * (to as usize);
-    let entries = nodes[row + ENTRIES];
-    let links = nodes[row + LINKS];
+    let entries = nodes[row + ENTRIES_BEFORE];
+    let links = nodes[row + LINKS_BEFORE];
     let now = Mark {
         entries: live.entries,
         links: live.links,
@@ -406,9 +408,9 @@ pub fn close(
     listed: &mut [u16],
     live: Live,
 ) -> Answer
-    requires { ⌜ ((most : ℕ) × (rank trail : List ℕ) × Opened most (state (laid (now parent) rank (now rows) trail (live .entries) (live .links)) (now nodes) (live .kept))) ⌝ }
+    requires { ⌜ ((most : ℕ) × (rank trail : List ℕ) × Opened most (held (now parent) rank (now rows) trail (now nodes) live)) ⌝ }
     requires { ⌜ (4 + 3 * live .entries < 2 ^ 16) × (4 * live .entries ≤ length (now work)) × (4 + 3 * live .entries + 2 * live .kept ≤ length (now listed)) ⌝ }
-    ensures { λ r. ⌜ ((most : ℕ) (rank trail : List ℕ) (o : Opened most (state (laid (now (parent .entry)) rank (now (rows .entry)) trail (live .entries) (live .links)) (now (nodes .entry)) (live .kept))) →
+    ensures { λ r. ⌜ ((most : ℕ) (rank trail : List ℕ) (o : Opened most (held (now (parent .entry)) rank (now (rows .entry)) trail (now (nodes .entry)) live)) →
         Closes most (o .nodes) (now (listed .entry)) r (now (listed .exit))) ⌝ }
 {
     let kept = live.kept;
@@ -426,16 +428,13 @@ pub fn close(
     }
 }
 
-// Opens fresh tables: the standing entries, and no node.
-pub fn open(
-    parent: &mut [u16],
-    rank: &mut [u16],
-    rows: &mut [u16],
-) -> Live
-    requires { ⌜ ((n : ℕ) × (33 ≤ n) × (n < 2 ^ 16)
-        × (now parent ≡ replicate n 0) × (now rank ≡ replicate n 0) × (now rows ≡ replicate (4 * n) 0)) ⌝ }
-    ensures { λ r. ⌜ (r .kept ≡ 0) × (laid (now (parent .exit)) (now (rank .exit)) (now (rows .exit)) (replicate (3 * length (now (parent .entry))) 0) (r .entries) (r .links)
-        ≡ entered (fresh (length (now (parent .entry)))) standing) ⌝ }
+// Opens fresh tables, all of them 0: the standing entries, and no node.
+pub fn open(parent: &mut [u16], rows: &mut [u16]) -> Live
+    requires { ⌜ ((n : ℕ) × (33 ≤ n) × (n < 2 ^ 16) × (now parent ≡ replicate n 0) × (now rows ≡ replicate (width * n) 0)) ⌝ }
+    ensures { λ r. ⌜ (
+        let n = length (now (parent .entry)) in
+        let is = laid (now (parent .exit)) (replicate n 0) (now (rows .exit)) (replicate (3 * n) 0) (r .entries) (r .links) in
+        (r .kept ≡ 0) × (is ≡ entered (fresh n) standing)) ⌝ }
 {
     let mut i = 0;
     while i < STANDING {
@@ -443,13 +442,7 @@ pub fn open(
             entries: i,
             links: 0,
         };
-        let Added::Entry(_) = context::add(
-            parent,
-            rank,
-            rows,
-            now,
-            standing_bound(i),
-        ) else {
+        let Added::Entry(_) = context::add(parent, rows, now, standing_bound(i)) else {
             return Live {
                 entries: i,
                 links: 0,

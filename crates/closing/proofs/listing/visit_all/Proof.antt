@@ -9,7 +9,7 @@ use Rattle.classes.specs.Forced.{Rule}
 use Rattle.classes.specs.Table.{Table}
 use Rattle.classes.specs.Made.{Stands}
 use Rattle.typing.specs.Types.{Ty}
-use Rattle.closing.specs.Closings.{source-at, target-at}
+use Rattle.nodes.specs.Kept.{source-at, target-at}
 use Rattle.closing.specs.Visiting.{Settled}
 use Rattle.closing.specs.Writing.{ArrowBy, Through}
 use Rattle.closing.specs.declared.walk.Visited.{Visited}

@@ -1,11 +1,9 @@
 -- `closing::walk::step` meets its contract.
 use mathlib.Core.Path.{_≡_, sym, _∙_, subst}
 use mathlib.Core.List.{List}
-use Prim.Native.Nat.{ℕ, _+_, _-_, _*_}
-use lib.ListN.{getD}
-use Rattle.classes.specs.Columns.{column}
+use Prim.Native.Nat.{ℕ}
 use Rattle.classes.specs.declared.Bound.{Bound}
-use Rattle.closing.specs.Walking.{seen, PartsBelow, Stepped}
+use Rattle.closing.specs.Walking.{seen-in, top-of, PartsBelow, Stepped}
 use Rattle.closing.specs.declared.walk.Turn.{Turn}
 use borrow.Author.Needs.{needs}
 use Rattle.closing.proofs.walk.step.Statement.{statement}
@@ -19,12 +17,12 @@ module _ (c : tie.After-look) where
   abbrev Left : Bound → Turn → List ℕ → List ℕ → Type 0
   Left b =
       let a = begun c .args in
-      Stepped (a .entries) (a .work .now) (a .listing .now) (a .depth) (a .count) (getD (a .work .now) (4 * (a .depth - 1) + 1) 0) b
+      Stepped (a .entries) (a .work .now) (a .listing .now) (a .depth) (a .count) (top-of (a .work .now) (a .depth)) b
 
   abbrev looked : Bound
   looked =
       let a = begun c .args in
-      seen (a .parent .now) (column 3 (a .rows .now)) (column 0 (a .rows .now)) (column 1 (a .rows .now)) (column 2 (a .rows .now)) (getD (a .work .now) (4 * (a .depth - 1) + 1) 0)
+      seen-in (a .parent .now) (a .rows .now) (top-of (a .work .now) (a .depth))
 
   stepped : {b : Bound} (x : Turn) (w l : List ℕ) → c .look .result ≡ b → Left b x w l → Left looked x w l
   stepped x w l e s = subst (λ (b : Bound). Left b x w l) (sym e ∙ c .look .ensures) s

@@ -18,6 +18,8 @@ use Rattle.classes.proofs.Closing.{made-good}
 use Rattle.classes.proofs.Premises.{made-rooted}
 use Rattle.classes.proofs.Roots.{root-live}
 use Rattle.closing.proofs.Walks.{Walking, After, top-there}
+use Rattle.classes.specs.Columns.{kind-at, shape-at}
+use Rattle.classes.proofs.Columns.{is-row}
 use Rattle.closing.proofs.Visits.{seeable, seen-low, steppable, walked-on, walking-begins, visited-done, visited-endless}
 use Rattle.closing.proofs.walk.visit.Statement.{statement}
 use Rattle.closing.proofs.walk.visit.Tie as tie
@@ -121,7 +123,12 @@ step-requires c κs =
     let s = begun head .pre .0 .5 in
     let (us, w) = walking head s (begun head .pre .0 .6) in
     let there = top-there s w (some (c .before .before)) in
-    (steppable s w (some (c .before .before)), (seeable s _ (there .0) (there .2), seen-low s _ (there .0) (there .2)))
+    let rows = begun head .args .rows .now in
+    let (shaped, given, rooted) = seeable s _ (there .0) (there .2) in
+    (
+      steppable s w (some (c .before .before)),
+      (record { shaped = is-row shape-at rows _ shaped; given = is-row kind-at rows _ given; rooted = rooted }, seen-low s _ (there .0) (there .2)),
+    )
 
 enum-known-d : tie.Need-enum-known-d Inv-loop μ-loop
 enum-known-d c = search needs
