@@ -8,7 +8,7 @@ use nodes::records::LARGEST_WORD;
 use types::Answer;
 use types::limits::ENTRIES;
 use types::limits::LISTING;
-use types::limits::NODES;
+use types::limits::NODE_ROWS;
 use types::limits::PENDING;
 use types::limits::ROWS;
 use types::limits::TRAIL;
@@ -21,6 +21,7 @@ ghost use Prim.Native.Nat.{_≤_};
 ghost use lib.ListN.{length, set};
 ghost use Rattle.nodes.specs.Layout.{word-of};
 ghost use Rattle.nodes.specs.Coded.{node-of, Regular};
+ghost use Rattle.types.specs.Limits.{longest-listing, most-nodes};
 ghost use Rattle.types.specs.States.{Opened};
 ghost use Rattle.calls.specs.Values.{state-of};
 ghost use Rattle.types.specs.Calls.{Called};
@@ -28,11 +29,11 @@ ghost use Rattle.calls.specs.Handed.{Handed};
 ghost use Rattle.nodes.specs.declared.Record.the-variants.{Offer, TakeBack, Close};
 
 pub struct State {
-    pub parent: [u16; 8225],
-    pub rank: [u16; 8225],
-    pub rows: [u16; 32900],
-    pub trail: [u16; 24675],
-    pub nodes: [u16; 7168],
+    pub parent: [u16; ENTRIES],
+    pub rank: [u16; ENTRIES],
+    pub rows: [u16; ROWS],
+    pub trail: [u16; TRAIL],
+    pub nodes: [u16; NODE_ROWS],
     pub live: Live,
 }
 
@@ -45,24 +46,20 @@ pub struct Put {
 // A closing's answer, its listing with 0 past the end, and the state, which is the one that was given.
 pub struct Listed {
     pub answer: Answer,
-    pub listing: [u16; 26727],
+    pub listing: [u16; LISTING],
     pub state: State,
 }
 
 // The fresh state: the standing entries, and no node.
 pub fn open() -> State
-    ensures { λ r. ⌜ ((o : Opened 1024 (state-of r)) × (o .nodes ≡ [])) ⌝ }
+    ensures { λ r. ⌜ ((o : Opened most-nodes (state-of r)) × (o .nodes ≡ [])) ⌝ }
 {
     let mut parent = [0u16; ENTRIES];
-    let mut rank = [0u16; ENTRIES];
+    let rank = [0u16; ENTRIES];
     let mut rows = [0u16; ROWS];
     let trail = [0u16; TRAIL];
-    let nodes = [0u16; NODES];
-    let live = state::open(
-        &mut parent,
-        &mut rank,
-        &mut rows,
-    );
+    let nodes = [0u16; NODE_ROWS];
+    let live = state::open(&mut parent, &mut rows);
     State {
         parent,
         rank,
@@ -129,8 +126,8 @@ fn coded(n: Node) -> Coded
 
 // Offers a node: the checks in the order 1, 3, 2, 4.
 pub fn offer(s: State, n: Node) -> Put
-    requires { ⌜ Opened 1024 (state-of s) ⌝ }
-    ensures { λ r. ⌜ ((o : Opened 1024 (state-of s)) → Called 1024 (state-of s) o (Offer n) (r .answer) (state-of (r .state))) ⌝ }
+    requires { ⌜ Opened most-nodes (state-of s) ⌝ }
+    ensures { λ r. ⌜ ((o : Opened most-nodes (state-of s)) → Called most-nodes (state-of s) o (Offer n) (r .answer) (state-of (r .state))) ⌝ }
 {
     if LARGEST_WORD < word_of(n) {
         return Put {
@@ -172,8 +169,8 @@ pub fn offer(s: State, n: Node) -> Put
 
 // Takes back to the first `to` nodes.
 pub fn take_back(s: State, to: u16) -> Put
-    requires { ⌜ Opened 1024 (state-of s) ⌝ }
-    ensures { λ r. ⌜ ((o : Opened 1024 (state-of s)) → Called 1024 (state-of s) o (TakeBack to) (r .answer) (state-of (r .state))) ⌝ }
+    requires { ⌜ Opened most-nodes (state-of s) ⌝ }
+    ensures { λ r. ⌜ ((o : Opened most-nodes (state-of s)) → Called most-nodes (state-of s) o (TakeBack to) (r .answer) (state-of (r .state))) ⌝ }
 {
     let mut parent = s.parent;
     let mut rank = s.rank;
@@ -216,8 +213,9 @@ fn no_listing(listing: &mut [u16])
 
 // Closes, and hands the listing out.
 pub fn close(s: State) -> Listed
-    requires { ⌜ Opened 1024 (state-of s) ⌝ }
-    ensures { λ r. ⌜ ((o : Opened 1024 (state-of s)) → Called 1024 (state-of s) o Close (r .answer) (state-of (r .state)) × Handed 26727 (o .nodes) (r .listing)) ⌝ }
+    requires { ⌜ Opened most-nodes (state-of s) ⌝ }
+    ensures { λ r. ⌜ ((o : Opened most-nodes (state-of s)) →
+        Called most-nodes (state-of s) o Close (r .answer) (state-of (r .state)) × Handed longest-listing (o .nodes) (r .listing)) ⌝ }
 {
     let parent = s.parent;
     let rows = s.rows;

@@ -6,6 +6,7 @@ use Prim.Native.Nat.{ℕ, _+_, _*_, _≤_, _<_}
 use native.Mathlib.Decide.{ℕ-discrete, decLe, decLt}
 use native.Mathlib.Omega.{arith}
 use lib.ListN.{length}
+use Rattle.types.specs.Limits.{longest-listing}
 use Rattle.formats.specs.Header.{format, count, offset, total, judged, code-of}
 use Rattle.formats.specs.declared.header.Outcome.{Outcome}
 use Rattle.formats.specs.declared.header.Outcome.the-variants.{Done, TooShort, BadFormat, TooMany, BadOffset, BadLength, AnswersShort, ListingShort}
@@ -51,14 +52,14 @@ module _ (job : List ℕ) (answers listing : ℕ) where
                   ∙ if-neg (decLe _ _) (λ g. omega (arith, g, h, en)) _ _)
 
               module _ (room : 8 * n ≤ answers) where
-                pub listing-short : listing < 26727 → ListingShort ≡ judged job answers listing
+                pub listing-short : listing < longest-listing → ListingShort ≡ judged job answers listing
                 listing-short h =
                     sym (if-pos (decLe _ _) long _ _ ∙ if-pos (ℕ-discrete _ _) (sym ef ∙ hf) _ _ ∙ if-pos (decLe _ _) (omega (arith, few, en)) _ _
                     ∙ if-pos (ℕ-discrete _ _) (sym eo ∙ ho) _ _ ∙ if-pos (ℕ-discrete _ _) (omega (arith, ht, en, et)) _ _
                     ∙ if-pos (ℕ-discrete _ _) (omega (arith, hl, en)) _ _ ∙ if-pos (decLe _ _) (omega (arith, room, en)) _ _
                     ∙ if-neg (decLe _ _) (λ g. omega (arith, g, h)) _ _)
 
-                pub can-be-run : 26727 ≤ listing → Done ≡ judged job answers listing
+                pub can-be-run : longest-listing ≤ listing → Done ≡ judged job answers listing
                 can-be-run h =
                     sym (if-pos (decLe _ _) long _ _ ∙ if-pos (ℕ-discrete _ _) (sym ef ∙ hf) _ _ ∙ if-pos (decLe _ _) (omega (arith, few, en)) _ _
                     ∙ if-pos (ℕ-discrete _ _) (sym eo ∙ ho) _ _ ∙ if-pos (ℕ-discrete _ _) (omega (arith, ht, en, et)) _ _
@@ -70,7 +71,7 @@ pub record Ready (job : List ℕ) (answers listing : ℕ) : Type 0 where
   pub few : count job ≤ 4096
   pub long : length job ≡ 16 + 8 * count job
   pub room : 8 * count job ≤ answers
-  pub numbers : 26727 ≤ listing
+  pub numbers : longest-listing ≤ listing
 
 module _ (job : List ℕ) (answers listing : ℕ) (done : judged job answers listing ≡ Done) where
   -- no refusal is the outcome
@@ -88,7 +89,7 @@ module _ (job : List ℕ) (answers listing : ℕ) (done : judged job answers lis
       by-cases (ℕ-discrete (length job) (16 + 8 * count job)) (λ hl.
       by-cases (decLt answers (8 * count job)) (λ h. absurd (not-refused (answers-short job answers listing long refl hf refl few refl ho refl ht hl h) (omega arith))) (λ room₀.
       let room : 8 * count job ≤ answers = omega (arith, room₀) in
-      by-cases (decLt listing 26727) (λ h. absurd (not-refused (listing-short job answers listing long refl hf refl few refl ho refl ht hl room h) (omega arith))) (λ numbers.
+      by-cases (decLt listing longest-listing) (λ h. absurd (not-refused (listing-short job answers listing long refl hf refl few refl ho refl ht hl room h) (omega arith))) (λ numbers.
       record { few = few; long = hl; room = room; numbers = omega (arith, numbers) })))
       (λ h. absurd (not-refused (bad-length job answers listing long refl hf refl few refl ho refl ht h) (omega arith))))
       (λ h. absurd (not-refused (bad-total job answers listing long refl hf refl few refl ho refl h) (omega arith))))

@@ -4,6 +4,7 @@ use mathlib.Core.Logic.{ite}
 use Prim.Native.Nat.{ℕ, _+_, _*_}
 use native.Mathlib.Decide.{ℕ-discrete, decLe}
 use lib.ListN.{length, getD}
+use Rattle.types.specs.Limits.{longest-listing}
 use Rattle.formats.specs.declared.header.Outcome.{Outcome}
 use Rattle.formats.specs.declared.header.Outcome.the-variants.{Done, TooShort, BadFormat, TooMany, BadOffset, BadLength, AnswersShort, ListingShort}
 
@@ -38,7 +39,7 @@ judged job answers listing =
     (needs (ℕ-discrete (total job) (16 + 8 * count job)) BadLength
     (needs (ℕ-discrete (length job) (16 + 8 * count job)) BadLength
     (needs (decLe (8 * count job) answers) AnswersShort
-    (needs (decLe 26727 listing) ListingShort
+    (needs (decLe longest-listing listing) ListingShort
     Done)))))))
 
 -- document 01's number for each

@@ -10,7 +10,7 @@ use formats::header::Outcome;
 use formats::listing;
 use types::limits::ENTRIES;
 use types::limits::LISTING;
-use types::limits::NODES;
+use types::limits::NODE_ROWS;
 use types::limits::ROWS;
 use types::limits::TRAIL;
 use types::limits::WORK;
@@ -30,13 +30,9 @@ pub fn job(job: &[u8], answers: &mut [u8], listing: &mut [u16]) -> Outcome
     let mut rows = [0u16; ROWS];
     let mut trail = [0u16; TRAIL];
     let mut work = [0u16; WORK];
-    let mut nodes = [0u16; NODES];
+    let mut nodes = [0u16; NODE_ROWS];
     let mut listed = [0u16; LISTING];
-    let live = state::open(
-        &mut parent,
-        &mut rank,
-        &mut rows,
-    );
+    let live = state::open(&mut parent, &mut rows);
     listing::clear(&mut listed);
     run::run(
         &mut parent,

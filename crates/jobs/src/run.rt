@@ -14,9 +14,9 @@ ghost use mathlib.Core.Path.{_≡_};
 ghost use mathlib.Core.List.{List};
 ghost use Prim.Native.Nat.{ℕ, _+_, _*_, _≤_};
 ghost use lib.ListN.{length, getD};
-ghost use Rattle.classes.specs.Columns.{laid};
 ghost use Rattle.nodes.specs.Records.{record-at};
-ghost use Rattle.types.specs.States.{state, Opened};
+ghost use Rattle.types.specs.Limits.{most-nodes};
+ghost use Rattle.types.specs.States.{held, Opened};
 ghost use Rattle.formats.specs.Shown.{settled};
 ghost use Rattle.jobs.specs.Putting.{Room, Put, Recorded, Puts};
 
@@ -34,11 +34,13 @@ fn put(
     bytes: &[u8],
     from: usize,
 ) -> Step
-    requires { ⌜ Opened 1024 (state (laid (now parent) (now rank) (now rows) (now trail) (live .entries) (live .links)) (now nodes) (live .kept)) ⌝ }
-    requires { ⌜ (from + 8 ≤ length (now bytes)) × Room (state (laid (now parent) (now rank) (now rows) (now trail) (live .entries) (live .links)) (now nodes) (live .kept)) (now work) (now listed) ⌝ }
-    ensures { λ r. ⌜ ((o : Opened 1024 (state (laid (now (parent .entry)) (now (rank .entry)) (now (rows .entry)) (now (trail .entry)) (live .entries) (live .links)) (now (nodes .entry)) (live .kept))) →
-        (between : List ℕ) × Put (state (laid (now (parent .entry)) (now (rank .entry)) (now (rows .entry)) (now (trail .entry)) (live .entries) (live .links)) (now (nodes .entry)) (live .kept)) o (record-at (now (bytes .entry)) from) (now (listed .entry)) (r .answer)
-        (state (laid (now (parent .exit)) (now (rank .exit)) (now (rows .exit)) (now (trail .exit)) (r .live .entries) (r .live .links)) (now (nodes .exit)) (r .live .kept)) between
+    requires { ⌜ Opened most-nodes (held (now parent) (now rank) (now rows) (now trail) (now nodes) live) ⌝ }
+    requires { ⌜ (from + 8 ≤ length (now bytes)) × Room (held (now parent) (now rank) (now rows) (now trail) (now nodes) live) (now work) (now listed) ⌝ }
+    ensures { λ r. ⌜ (
+        let was = held (now (parent .entry)) (now (rank .entry)) (now (rows .entry)) (now (trail .entry)) (now (nodes .entry)) live in
+        let is = held (now (parent .exit)) (now (rank .exit)) (now (rows .exit)) (now (trail .exit)) (now (nodes .exit)) (r .live) in
+        (o : Opened most-nodes was) → (between : List ℕ)
+        × Put was o (record-at (now (bytes .entry)) from) (now (listed .entry)) (r .answer) is between
         × (now (listed .exit) ≡ settled (getD (now (bytes .entry)) from 0) (r .answer) between)) ⌝ }
 {
     match records::asked(bytes, from) {
@@ -91,13 +93,14 @@ fn put_bytes(
     to: usize,
     live: Live,
 ) -> Live
-    requires { ⌜ Opened 1024 (state (laid (now parent) (now rank) (now rows) (now trail) (live .entries) (live .links)) (now nodes) (live .kept)) ⌝ }
-    requires { ⌜ Room (state (laid (now parent) (now rank) (now rows) (now trail) (live .entries) (live .links)) (now nodes) (live .kept)) (now work) (now listed) ⌝ }
+    requires { ⌜ Opened most-nodes (held (now parent) (now rank) (now rows) (now trail) (now nodes) live) ⌝ }
+    requires { ⌜ Room (held (now parent) (now rank) (now rows) (now trail) (now nodes) live) (now work) (now listed) ⌝ }
     requires { ⌜ (from + 8 ≤ length (now bytes)) × (to + 8 ≤ length (now answers)) ⌝ }
-    ensures { λ r. ⌜ ((o : Opened 1024 (state (laid (now (parent .entry)) (now (rank .entry)) (now (rows .entry)) (now (trail .entry)) (live .entries) (live .links)) (now (nodes .entry)) (live .kept))) →
-        Recorded (state (laid (now (parent .entry)) (now (rank .entry)) (now (rows .entry)) (now (trail .entry)) (live .entries) (live .links)) (now (nodes .entry)) (live .kept)) o
-        (now (bytes .entry)) from (now (listed .entry)) (now (answers .entry)) to
-        (state (laid (now (parent .exit)) (now (rank .exit)) (now (rows .exit)) (now (trail .exit)) (r .entries) (r .links)) (now (nodes .exit)) (r .kept)) (now (listed .exit)) (now (answers .exit))) ⌝ }
+    ensures { λ r. ⌜ (
+        let was = held (now (parent .entry)) (now (rank .entry)) (now (rows .entry)) (now (trail .entry)) (now (nodes .entry)) live in
+        let is = held (now (parent .exit)) (now (rank .exit)) (now (rows .exit)) (now (trail .exit)) (now (nodes .exit)) r in
+        (o : Opened most-nodes was) →
+        Recorded was o (now (bytes .entry)) from (now (listed .entry)) (now (answers .entry)) to is (now (listed .exit)) (now (answers .exit))) ⌝ }
 {
     let step = put(
         parent,
@@ -131,13 +134,14 @@ pub fn run(
     opened: Live,
     count: usize,
 ) -> Live
-    requires { ⌜ Opened 1024 (state (laid (now parent) (now rank) (now rows) (now trail) (opened .entries) (opened .links)) (now nodes) (opened .kept)) ⌝ }
-    requires { ⌜ Room (state (laid (now parent) (now rank) (now rows) (now trail) (opened .entries) (opened .links)) (now nodes) (opened .kept)) (now work) (now listed) ⌝ }
+    requires { ⌜ Opened most-nodes (held (now parent) (now rank) (now rows) (now trail) (now nodes) opened) ⌝ }
+    requires { ⌜ Room (held (now parent) (now rank) (now rows) (now trail) (now nodes) opened) (now work) (now listed) ⌝ }
     requires { ⌜ (from + 8 * count ≤ length (now bytes)) × (8 * count ≤ length (now answers)) ⌝ }
-    ensures { λ r. ⌜ ((o : Opened 1024 (state (laid (now (parent .entry)) (now (rank .entry)) (now (rows .entry)) (now (trail .entry)) (opened .entries) (opened .links)) (now (nodes .entry)) (opened .kept))) →
-        (o′ : Opened 1024 (state (laid (now (parent .exit)) (now (rank .exit)) (now (rows .exit)) (now (trail .exit)) (r .entries) (r .links)) (now (nodes .exit)) (r .kept))) ×
-        Puts (now (bytes .entry)) from (state (laid (now (parent .entry)) (now (rank .entry)) (now (rows .entry)) (now (trail .entry)) (opened .entries) (opened .links)) (now (nodes .entry)) (opened .kept)) o (now (listed .entry)) (now (answers .entry)) count
-        (state (laid (now (parent .exit)) (now (rank .exit)) (now (rows .exit)) (now (trail .exit)) (r .entries) (r .links)) (now (nodes .exit)) (r .kept)) o′ (now (listed .exit)) (now (answers .exit))) ⌝ }
+    ensures { λ r. ⌜ (
+        let was = held (now (parent .entry)) (now (rank .entry)) (now (rows .entry)) (now (trail .entry)) (now (nodes .entry)) opened in
+        let is = held (now (parent .exit)) (now (rank .exit)) (now (rows .exit)) (now (trail .exit)) (now (nodes .exit)) r in
+        (o : Opened most-nodes was) → (o′ : Opened most-nodes is) ×
+        Puts (now (bytes .entry)) from was o (now (listed .entry)) (now (answers .entry)) count is o′ (now (listed .exit)) (now (answers .exit))) ⌝ }
 {
     let mut live = opened;
     let mut i: usize = 0;

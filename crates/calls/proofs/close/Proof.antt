@@ -7,6 +7,7 @@ use native.Mathlib.Omega.{arith}
 use lib.ListN.{length-replicate}
 use types.Run.{OneOf}
 use denote.Enum.Declared.{tagOf}
+use Rattle.types.specs.Limits.{longest-listing, most-nodes, work-long}
 use Rattle.types.specs.declared.Answer.{Answer}
 use Rattle.types.specs.declared.Answer.the-variants.{Endless}
 use Rattle.types.proofs.Answer.{the-type}
@@ -42,7 +43,7 @@ slice-aggregate-close-5 c = search needs
 close-requires : tie.Need-close-requires
 close-requires c κs =
     let o = c .before .before .before .before .before .before .before .before .before .pre in
-    ((1024, _, _, o), array-room o 32900 26727 (omega arith) (omega arith))
+    ((most-nodes, _, _, o), array-room o work-long longest-listing (omega arith) (omega arith))
 
 enum-told : tie.Need-enum-told
 enum-told c = search needs
@@ -51,17 +52,17 @@ slice-aggregate-no-listing : tie.Need-slice-aggregate-no-listing
 slice-aggregate-no-listing c = search needs
 
 no-listing-requires : tie.Need-no-listing-requires
-no-listing-requires c κs = rw (length-replicate {A = ℕ} 26727 0) (omega arith)
+no-listing-requires c κs = rw (length-replicate {A = ℕ} longest-listing 0) (omega arith)
 
 returns : tie.Need-returns
 returns c = λ o.
-    let call = c .before .before .before .before .before .before .before .close .ensures 1024 _ _ o in
-    (closing-called o call, handed-none o 26727 (omega arith) call (c .before .before .before .enum-told .given .1) (c .before .no-listing .ensures))
+    let call = c .before .before .before .before .before .before .before .close .ensures most-nodes _ _ o in
+    (closing-called o call, handed-none o longest-listing (omega arith) call (c .before .before .before .enum-told .given .1) (c .before .no-listing .ensures))
 
 returns-2 : tie.Need-returns-2
 returns-2 c = λ o.
-    let call = c .before .before .before .close .ensures 1024 _ _ o in
-    (closing-called o call, handed-types o 26727 (omega arith) call (not-endless (c .match .keys2)))
+    let call = c .before .before .before .close .ensures most-nodes _ _ o in
+    (closing-called o call, handed-types o longest-listing (omega arith) call (not-endless (c .match .keys2)))
 
 pub close-spec : {M : Type 1} → statement M
 close-spec =

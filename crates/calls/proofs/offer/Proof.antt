@@ -1,6 +1,8 @@
 -- `calls::offer` meets its contract, which is the core's on the state's own arrays. A word's n is looked at first.
+use Prim.Native.Nat.{_*_}
 use mathlib.Core.Path.{sym, subst}
 use native.Mathlib.Omega.{arith}
+use Rattle.types.specs.Limits.{most-entries, most-nodes}
 use Rattle.nodes.specs.Layout.{Proper}
 use Rattle.types.proofs.Begun.{pending-wide}
 use Rattle.types.proofs.Offering.{offer-over-31}
@@ -44,12 +46,12 @@ offer-requires : tie.Need-offer-requires
 offer-requires c κs =
     let past = c .before .before .before .before .before .before .before .before .before .before .before .before .before in
     let start = past .before .before in (
-      (1024, start .pre),
-      (c .coded .ensures .1, subst Proper (sym (c .coded .ensures .0)) (proper past), pending-wide (start .args .s .parent) 8225 16450 (slice-aggregate-offer (c .before .before .before .before .before .before)) (omega arith)),
+      (most-nodes, start .pre),
+      (c .coded .ensures .1, subst Proper (sym (c .coded .ensures .0)) (proper past), pending-wide (start .args .s .parent) most-entries (2 * most-entries) (slice-aggregate-offer (c .before .before .before .before .before .before)) (omega arith)),
     )
 
 returns-2 : tie.Need-returns-2
-returns-2 c = let call = c .before .before .before .before .before .before .before in λ o. same-offer (call .before .coded .ensures .0) (call .offer .ensures 1024 o)
+returns-2 c = let call = c .before .before .before .before .before .before .before in λ o. same-offer (call .before .coded .ensures .0) (call .offer .ensures most-nodes o)
 
 pub offer-spec : {M : Type 1} → statement M
 offer-spec =

@@ -1,4 +1,5 @@
 -- `calls::open` meets its contract, which is the core's on the state's own arrays.
+use Rattle.types.specs.Limits.{most-entries, most-nodes}
 use Rattle.types.proofs.Begun.{opened-first}
 use mathlib.Core.Path.{refl}
 use native.Mathlib.Omega.{arith}
@@ -12,23 +13,11 @@ slice-aggregate-open c = search needs
 slice-aggregate-open-2 : tie.Need-slice-aggregate-open-2
 slice-aggregate-open-2 c = search needs
 
-slice-aggregate-open-3 : tie.Need-slice-aggregate-open-3
-slice-aggregate-open-3 c = search needs
-
 open-requires : tie.Need-open-requires
-open-requires c κs = (8225, omega arith, omega arith, refl, refl, refl)
+open-requires c κs = (most-entries, omega arith, omega arith, refl, refl)
 
 returns : tie.Need-returns
-returns c =
-    let o = c .before .before .before .open in
-    opened-first 1024 8225 (omega arith) (omega arith) (o .ensures .0) (o .ensures .1)
+returns c = let o = c .before .before .«open» in opened-first most-nodes most-entries (omega arith) (omega arith) (o .ensures .0) (o .ensures .1)
 
 pub open-spec : {M : Type 1} → statement M
-open-spec =
-    tie.close
-    (tie.spec
-    slice-aggregate-open
-    slice-aggregate-open-2
-    slice-aggregate-open-3
-    open-requires
-    returns)
+open-spec = tie.close (tie.spec slice-aggregate-open slice-aggregate-open-2 open-requires returns)

@@ -1,5 +1,6 @@
 -- `calls::take_back` meets its contract, which is the core's on the state's own arrays.
 use borrow.Author.Needs.{needs}
+use Rattle.types.specs.Limits.{most-nodes}
 use Rattle.calls.proofs.take_back.Statement.{statement}
 use Rattle.calls.proofs.take_back.Tie as tie
 
@@ -22,7 +23,7 @@ take-back-requires : tie.Need-take-back-requires
 take-back-requires c κs = search needs
 
 returns : tie.Need-returns
-returns c = λ o. c .before .before .before .before .before .before .take-back .ensures 1024 o
+returns c = λ o. c .before .before .before .before .before .before .take-back .ensures most-nodes o
 
 pub take-back-spec : {M : Type 1} → statement M
 take-back-spec =

@@ -7,6 +7,7 @@ use native.Mathlib.Omega.{arith}
 use lib.ListN.{length, length-replicate}
 use types.Run.{OneOf}
 use denote.Enum.Declared.{tagOf}
+use Rattle.types.specs.Limits.{longest-listing, most-entries, most-nodes, work-long}
 use Rattle.types.proofs.Begun.{opened-first}
 use Rattle.formats.specs.Header.{judged}
 use Rattle.formats.specs.declared.header.Outcome.{Outcome}
@@ -29,13 +30,10 @@ not-done keys e =
     (λ (z : _≡_ {A = ℕ} 0 7). omega arith)))))) told
 
 -- in the other arm the job can be run
-abbrev told : tie.After-run-arg → tie.After-enum-told
-told c = c .before .before .before .before .before .before .before .before .before .before .before .before .before .before .before .before .before .before
-
-done-at : (c : tie.After-enum-told) → judged (c .before .before .before .before .before .before .args .job .now) (length (c .before .before .before .before .before .before .args .answers .now)) (length (c .before .before .before .before .before .before .args .listing .now)) ≡ Done
+done-at : (c : tie.After-enum-told) → let a = c .before .before .before .before .before .before .args in judged (a .job .now) (length (a .answers .now)) (length (a .listing .now)) ≡ Done
 done-at c = sym (c .before .before .judge .ensures) ∙ c .enum-told .given .1
 
-ready-at : (c : tie.After-enum-told) → Ready (c .before .before .before .before .before .before .args .job .now) (length (c .before .before .before .before .before .before .args .answers .now)) (length (c .before .before .before .before .before .before .args .listing .now))
+ready-at : (c : tie.After-enum-told) → let a = c .before .before .before .before .before .before .args in Ready (a .job .now) (length (a .answers .now)) (length (a .listing .now))
 ready-at c = ready _ _ _ (done-at c)
 
 judge-requires : tie.Need-judge-requires
@@ -53,17 +51,14 @@ slice-aggregate-open c = search needs
 slice-aggregate-open-2 : tie.Need-slice-aggregate-open-2
 slice-aggregate-open-2 c = search needs
 
-slice-aggregate-open-3 : tie.Need-slice-aggregate-open-3
-slice-aggregate-open-3 c = search needs
-
 open-requires : tie.Need-open-requires
-open-requires c κs = (8225, omega arith, omega arith, refl, refl, refl)
+open-requires c κs = (most-entries, omega arith, omega arith, refl, refl)
 
 slice-aggregate-clear : tie.Need-slice-aggregate-clear
 slice-aggregate-clear c = search needs
 
 clear-requires : tie.Need-clear-requires
-clear-requires c κs = omega (arith, length-replicate {A = ℕ} 26727 0)
+clear-requires c κs = search needs
 
 slice-aggregate-run : tie.Need-slice-aggregate-run
 slice-aggregate-run c = search needs
@@ -87,19 +82,19 @@ slice-aggregate-run-7 : tie.Need-slice-aggregate-run-7
 slice-aggregate-run-7 c = search needs
 
 sub-run : tie.Need-sub-run
-sub-run c = omega (arith, ready-at (told c) .long)
+sub-run c = omega (arith, ready-at (c .before .before .before .before .before .before .before .before .before .before .before .before .before .before .before .before) .long)
 
 run-requires : tie.Need-run-requires
-run-requires c κs =
-    let opens = c .before .before .before .before .before .before .before .before .before .before .before .before .before .before .open in
+run-requires c κs = 
+    let opens = c .before .before .before .before .before .before .before .before .before .before .before .before .before .«open» in
     let clear = c .before .before .before .before .before .before .before .before .before .clear in
-    let ready = ready-at (told c) in (
-      opened-first 1024 8225 (omega arith) (omega arith) (opens .ensures .0) (opens .ensures .1) .0,
+    let ready = ready-at (c .before .before .before .before .before .before .before .before .before .before .before .before .before .before .before .before) in (
+      opened-first most-nodes most-entries (omega arith) (omega arith) (opens .ensures .0) (opens .ensures .1) .0,
       (
         record {
-          pairs = omega (arith, opens .kept .0, length-replicate {A = ℕ} 8225 0, length-replicate {A = ℕ} 32900 0);
-          marks = omega (arith, length-replicate {A = ℕ} 32900 0);
-          numbers = omega (arith, clear .kept .0, length-replicate {A = ℕ} 26727 0);
+          pairs = omega (arith, opens .kept .0, length-replicate {A = ℕ} most-entries 0, length-replicate {A = ℕ} work-long 0);
+          marks = omega (arith, length-replicate {A = ℕ} work-long 0);
+          numbers = omega (arith, clear .kept .0, length-replicate {A = ℕ} longest-listing 0);
         },
         (omega (arith, ready .long), omega (arith, ready .long, ready .room)),
       ),
@@ -109,12 +104,12 @@ slice-aggregate-show : tie.Need-slice-aggregate-show
 slice-aggregate-show c = search needs
 
 show-requires : tie.Need-show-requires
-show-requires c κs =
+show-requires c κs = 
+    let opens = c .before .before .before .before .before .before .before .before .before .before .before .before .before .before .before .before .before .before .before .before .before .before .before .before .before .«open» in
+    let clear = c .before .before .before .before .before .before .before .before .before .before .before .before .before .before .before .before .before .before .before .before .before .clear in
     let run = c .before .before .before .before .before .before .before .before .before .before .before in
-    let opens = run .before .before .before .before .before .before .before .before .before .before .before .before .before .before .before .open in
-    let clear = run .before .before .before .before .before .before .before .before .before .before .clear in
-    let (kept, r) = ran (opened-first 1024 8225 (omega arith) (omega arith) (opens .ensures .0) (opens .ensures .1)) (clear .ensures) (run .run .ensures) in
-    can-be-shown r (run .run .kept .1 .1 .1 .1 .1 .1 .0 ∙ clear .kept .0 ∙ length-replicate {A = ℕ} 26727 0) (ready-at (told (run .before)) .numbers)
+    let (kept, r) = ran (opened-first most-nodes most-entries (omega arith) (omega arith) (opens .ensures .0) (opens .ensures .1)) (clear .ensures) (run .run .ensures) in
+    can-be-shown r (run .run .kept .1 .1 .1 .1 .1 .1 .0 ∙ clear .kept .0 ∙ length-replicate {A = ℕ} longest-listing 0) (ready-at (c .before .before .before .before .before .before .before .before .before .before .before .before .before .before .before .before .before .before .before .before .before .before .before .before .before .before .before .before) .numbers)
 
 same-length : tie.Need-same-length
 same-length c = search needs
@@ -123,12 +118,11 @@ same-length-2 : tie.Need-same-length-2
 same-length-2 c = search needs
 
 returns-2 : tie.Need-returns-2
-returns-2 c =
-    let run = c .before .before .before .before .before .before .before .before .before .before .before .before .before .before in
-    let at = told (run .before) in
-    let opens = run .before .before .before .before .before .before .before .before .before .before .before .before .before .before .before .open in
-    let clear = run .before .before .before .before .before .before .before .before .before .before .clear in
-    let (kept, r) = ran (opened-first 1024 8225 (omega arith) (omega arith) (opens .ensures .0) (opens .ensures .1)) (clear .ensures) (run .run .ensures) in
+returns-2 c = 
+    let opens = c .before .before .before .before .before .before .before .before .before .before .before .before .before .before .before .before .before .before .before .before .before .before .before .before .before .before .before .before .«open» in
+    let clear = c .before .before .before .before .before .before .before .before .before .before .before .before .before .before .before .before .before .before .before .before .before .before .before .before .clear in
+    let at = c .before .before .before .before .before .before .before .before .before .before .before .before .before .before .before .before .before .before .before .before .before .before .before .before .before .before .before .before .before .before .before in
+    let (kept, r) = ran (opened-first most-nodes most-entries (omega arith) (omega arith) (opens .ensures .0) (opens .ensures .1)) (clear .ensures) (c .before .before .before .before .before .before .before .before .before .before .before .before .before .before .run .ensures) in
     finished r (done-at at) (omega (arith, ready-at at .long)) (c .before .before .show .ensures)
 
 pub job-spec : {M : Type 1} → statement M
@@ -140,7 +134,6 @@ job-spec =
     returns
     slice-aggregate-open
     slice-aggregate-open-2
-    slice-aggregate-open-3
     open-requires
     slice-aggregate-clear
     clear-requires

@@ -1,6 +1,7 @@
 -- `jobs::run::put` meets its contract: what the core promises, by what the record asks.
 use mathlib.Core.Path.{sym, ap, _∙_, subst}
 use native.Mathlib.Omega.{arith}
+use Rattle.types.specs.Limits.{most-nodes}
 use Rattle.nodes.specs.declared.Record.the-variants.{TakeBack}
 use Rattle.nodes.proofs.Asked.{Asked, asked, asked-proper, asked-take-back, asked-close, asked-malformed}
 use Rattle.jobs.proofs.Putting.{offer-is-no-closing, take-back-is-no-closing, offer-is-not-65, take-back-is-not-65, put-settled, put-closing, put-malformed, closing-room}
@@ -22,7 +23,7 @@ node-at-requires c κs =
 offer-requires : tie.Need-offer-requires
 offer-requires c κs =
     let start = c .before .before .before .before .before .before .before .before .before .before .before .before .before .before .before .before .before .before in
-    ((1024, start .pre .0), (c .node-at .ensures .1, asked-proper (asked (start .args .bytes .now) (start .args .from)) _ (c .node-at .ensures .0), start .pre .1 .1 .pairs))
+    ((most-nodes, start .pre .0), (c .node-at .ensures .1, asked-proper (asked (start .args .bytes .now) (start .args .from)) _ (c .node-at .ensures .0), start .pre .1 .1 .pairs))
 
 enum-told-2 : tie.Need-enum-told-2
 enum-told-2 c = search needs
@@ -39,7 +40,7 @@ enum-told-3 c = search needs
 close-requires : tie.Need-close-requires
 close-requires c κs =
     let start = c .before .before .before .before .before .before .before .before .before .before .before .before .before .before .before .before in
-    ((1024, _, _, start .pre .0), closing-room (start .pre .0) (start .pre .1 .1))
+    ((most-nodes, _, _, start .pre .0), closing-room (start .pre .0) (start .pre .1 .1))
 
 shared-slice-read-settle : tie.Need-shared-slice-read-settle
 shared-slice-read-settle c = omega (arith, c .before .before .before .before .before .before .before .before .before .before .before .before .before .before .before .before .before .before .before .before .before .before .before .pre .1 .0)
@@ -83,7 +84,7 @@ returns c =
     let start = c .before .before .before .before .before .before .before .before .before .before .before .before .before .before .before .before .before .before .before .before .before .before .before .before .before .before .before .before .before .before .before in
     let is = call .before .node-at .ensures .0 in
     let other = offer-is-not-65 (subst (Asked _ _ _) is (asked (start .args .bytes .now) (start .args .from))) in
-    λ o. put-settled o other is (offer-is-no-closing _) (call .offer .ensures 1024 o)
+    λ o. put-settled o other is (offer-is-no-closing _) (call .offer .ensures most-nodes o)
 
 same-length-7 : tie.Need-same-length-7
 same-length-7 c = search needs
@@ -106,7 +107,7 @@ returns-2 c =
     let start = c .before .before .before .before .before .before .before .before .before .before .before .before .before .before .before .before .before .before .before .before .before .before .before .before .before .before .before .before in
     let is = asked-take-back (asked (start .args .bytes .now) (start .args .from)) (sym (c .before .before .before .before .before .before .before .before .before .before .before .before .before .before .before .before .before .before .before .asked .ensures) ∙ c .before .before .before .before .before .before .before .before .before .before .before .before .before .before .before .before .before .enum-told2 .given .1) in
     let other = take-back-is-not-65 (subst (Asked _ _ _) is (asked (start .args .bytes .now) (start .args .from))) in
-    λ o. put-settled o other (is ∙ ap TakeBack (sym (call .before .first .ensures))) (take-back-is-no-closing _) (call .take-back .ensures 1024 o)
+    λ o. put-settled o other (is ∙ ap TakeBack (sym (call .before .first .ensures))) (take-back-is-no-closing _) (call .take-back .ensures most-nodes o)
 
 same-length-12 : tie.Need-same-length-12
 same-length-12 c = search needs
@@ -128,7 +129,7 @@ returns-3 c =
     let call = c .before .before .before .before .before .before .before .before .before in
     let start = c .before .before .before .before .before .before .before .before .before .before .before .before .before .before .before .before .before .before .before .before .before .before .before .before .before .before in
     let is = asked-close (asked (start .args .bytes .now) (start .args .from)) (sym (c .before .before .before .before .before .before .before .before .before .before .before .before .before .before .before .before .before .asked .ensures) ∙ c .before .before .before .before .before .before .before .before .before .before .before .before .before .before .before .enum-told3 .given .1) in
-    λ o. (_, put-closing o is (call .close .ensures 1024 _ _ o), c .before .before .settle .ensures)
+    λ o. (_, put-closing o is (call .close .ensures most-nodes _ _ o), c .before .before .settle .ensures)
 
 same-length-17 : tie.Need-same-length-17
 same-length-17 c = search needs

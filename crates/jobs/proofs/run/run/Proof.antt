@@ -7,12 +7,13 @@ use native.Mathlib.Numerals.{add-one}
 use native.Mathlib.Omega.{arith}
 use lib.ListN.{length}
 use Rattle.classes.specs.Columns.{laid}
+use Rattle.types.specs.Limits.{most-nodes}
 use Rattle.types.specs.States.{State, state, Opened}
 use Rattle.jobs.specs.Putting.{Recorded, Puts}
 use Rattle.jobs.proofs.run.run.Statement.{statement}
 use Rattle.jobs.proofs.run.run.Tie as tie
 
-module _ {bytes listed answers listed₁ answers₁ : List ℕ} {from : ℕ} {s s₁ : State} {o : Opened 1024 s} {o₁ : Opened 1024 s₁} {n : ℕ} (puts : Puts bytes from s o listed answers n s₁ o₁ listed₁ answers₁) where
+module _ {bytes listed answers listed₁ answers₁ : List ℕ} {from : ℕ} {s s₁ : State} {o : Opened most-nodes s} {o₁ : Opened most-nodes s₁} {n : ℕ} (puts : Puts bytes from s o listed answers n s₁ o₁ listed₁ answers₁) where
   -- the loop counts with a sum
   one-more : {s₂ : State} {listed₂ answers₂ : List ℕ} (x : Recorded s₁ o₁ bytes (from + 8 * n) listed₁ answers₁ (8 * n) s₂ listed₂ answers₂) →
       Puts bytes from s o listed answers (n + 1) s₂ (x .called .after) listed₂ answers₂
@@ -23,8 +24,8 @@ module _ {bytes listed answers listed₁ answers₁ : List ℕ} {from : ℕ} {s 
 
 abbrev Inv-loop : tie.InvT-loop
 Inv-loop parent₀ rank₀ rows₀ trail₀ work₀ nodes₀ listed₀ bytes from answers₀ count live₀ i₀ parent rank rows trail work nodes listed answers live i =
-    ((o : Opened 1024 (state (laid parent₀ rank₀ rows₀ trail₀ (live₀ .entries) (live₀ .links)) nodes₀ (live₀ .kept))) →
-    (o′ : Opened 1024 (state (laid parent rank rows trail (live .entries) (live .links)) nodes (live .kept)))
+    ((o : Opened most-nodes (state (laid parent₀ rank₀ rows₀ trail₀ (live₀ .entries) (live₀ .links)) nodes₀ (live₀ .kept))) →
+    (o′ : Opened most-nodes (state (laid parent rank rows trail (live .entries) (live .links)) nodes (live .kept)))
     × Puts bytes from (state (laid parent₀ rank₀ rows₀ trail₀ (live₀ .entries) (live₀ .links)) nodes₀ (live₀ .kept)) o listed₀ answers₀ i (state (laid parent rank rows trail (live .entries) (live .links)) nodes (live .kept)) o′ listed answers)
     × ((length parent ≡ length parent₀) × (length rank ≡ length rank₀) × (length rows ≡ length rows₀) × (length trail ≡ length trail₀) × (length work ≡ length work₀) × (length nodes ≡ length nodes₀) × (length listed ≡ length listed₀) × (length answers ≡ length answers₀))
     × (i ≤ count)
