@@ -1,7 +1,7 @@
 /* Every buffer of every call lies against a page that may not be touched: at its end in the first round, at its beginning in the
  * second. A call that reads or writes one number outside a buffer stops this program. Random records go to the record calls and, as
- * jobs, to the job call, and both must give the same answers and listings. In a third round each length in turn is wrong by one, and
- * what is lent may not be touched at all.
+ * jobs, to the job call, and both must give the same answers and listings. In a third round each length in turn is wrong by one,
+ * and what is lent may not be touched at all.
  *
  *     cc -I bindings/c bindings/c/fences.c target/staticlib/libtsarovima_c.a -o fences && ./fences */
 
@@ -44,8 +44,8 @@ static uint32_t put(const host *h)
 static uint32_t close_tables(const host *h)
 {
     return tsarovima_close(h->t[PARENT], h->len[PARENT], h->t[RANK], h->len[RANK], h->t[ROWS], h->len[ROWS], h->t[TRAIL],
-                           h->len[TRAIL], h->t[NODES], h->len[NODES], h->t[LIVE], h->len[LIVE], h->t[WORK], h->len[WORK],
-                           h->answer, h->answer_len, h->t[LISTING], h->len[LISTING]);
+                           h->len[TRAIL], h->t[NODES], h->len[NODES], h->t[LIVE], h->len[LIVE], h->t[WORK], h->len[WORK], h->answer,
+                           h->answer_len, h->t[LISTING], h->len[LISTING]);
 }
 
 static void must(int holds, const char *what)

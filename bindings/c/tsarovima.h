@@ -3,10 +3,9 @@
  * The functions are in libtsarovima_c.a, which `rt staticlib tsarovima_c` proves and writes (x86-64). They allocate nothing, keep
  * nothing between calls, and call nothing but memcpy and memset.
  *
- * A pointer and the length after it are one buffer: the length is in elements, not bytes. Of every buffer of every call the host must
- * see to it that the memory is its own, all of the length that it states; that the pointer is not null, also where the length is 0;
- * that a buffer of 16-bit numbers is aligned to 2 bytes (one of bytes may lie anywhere); and that no two buffers of a call overlap. No
- * call can look at these.
+ * A pointer and the length after it are one buffer: the length is in elements, not bytes. What no call can look at is for the host
+ * to see to: the memory is its own, as long as it says; the pointer is not null, also where the length is 0; a buffer of 16-bit
+ * numbers is aligned to 2 bytes (bytes may lie anywhere); no two buffers of a call overlap.
  *
  * Formats, kinds, codes and the listing are those of document 01, "State and records" and "Job and listing". */
 
@@ -37,13 +36,13 @@ uint32_t tsarovima_job(const uint8_t *job, size_t job_len, uint8_t *answers, siz
 
 /* ---- record calls ----
  *
- * The tables are the host's: parent, rank, rows, trail, nodes and live. It must not write to them, copy parts of them over each other,
- * or lend tables to tsarovima_record or tsarovima_close that did not come from tsarovima_open and these calls: what the two promise
- * is proved for such tables alone, and with other numbers in them they may read and write outside the buffers. One set of tables serves
- * one thread at a time. Nothing has to be given back: a host that is done with the tables forgets them.
+ * The tables are the host's: parent, rank, rows, trail, nodes and live. It must not write to them, copy parts of them over each
+ * other, or lend tables to tsarovima_record or tsarovima_close that did not come from tsarovima_open and these calls: what the two
+ * promise is proved for such tables alone, and with other numbers in them they may read and write outside the buffers. One set of
+ * tables serves one thread at a time. Nothing has to be given back: a host that is done with the tables forgets them.
  *
- * Every call looks at the length of every buffer before anything else. A wrong one is answered with TSAROVIMA_WRONG_LENGTH, whatever
- * the tables hold, and then nothing was written to any buffer. */
+ * Each of the three looks at the length of every buffer before anything else. A wrong one is answered with TSAROVIMA_WRONG_LENGTH,
+ * whatever the tables hold, and then nothing was written to any buffer. */
 
 #define TSAROVIMA_ENTRIES 8225
 #define TSAROVIMA_ROWS 32900
@@ -57,29 +56,28 @@ uint32_t tsarovima_job(const uint8_t *job, size_t job_len, uint8_t *answers, siz
 
 /* Makes the tables a fresh state.
  *
- * Reads nothing: they may hold anything. Writes every number of parent and rank (TSAROVIMA_ENTRIES each), rows (TSAROVIMA_ROWS: kind,
- * left, right and shape of each entry), trail (TSAROVIMA_TRAIL), nodes (TSAROVIMA_NODES) and live (TSAROVIMA_LIVE: entries, links, nodes
- * kept).
- * Returns TSAROVIMA_DONE, or TSAROVIMA_WRONG_LENGTH if one of them is shorter or longer. */
+ * Reads nothing: they may hold anything. Writes every number of parent and rank (TSAROVIMA_ENTRIES each), rows (TSAROVIMA_ROWS:
+ * kind, left, right and shape of each entry), trail (TSAROVIMA_TRAIL), nodes (TSAROVIMA_NODES) and live (TSAROVIMA_LIVE: entries,
+ * links, nodes kept). Returns TSAROVIMA_DONE, or TSAROVIMA_WRONG_LENGTH if one of them is shorter or longer. */
 uint32_t tsarovima_open(uint16_t *parent, size_t parent_len, uint16_t *rank, size_t rank_len, uint16_t *rows, size_t rows_len,
                         uint16_t *trail, size_t trail_len, uint16_t *nodes, size_t nodes_len, uint16_t *live, size_t live_len);
 
 /* Puts a record to the state: an offer, a take-back, or (kind 65) a closing.
  *
  * Reads the tables and the first eight bytes of `record`, which may be any bytes. Writes the answer in the first eight bytes of
- * `answer`, and the tables, which a refused record leaves as they were. Kind 65 writes its listing into `listing`, or 0, 0, 4, 4 if it
- * is refused; after code 5 the numbers past these four are not as they were. Any other record leaves `listing` alone. Numbers and bytes
- * past these are as they were. What `work` holds before does not matter, and after a call it means nothing.
- * Returns TSAROVIMA_DONE, whatever the answer's code is, or TSAROVIMA_WRONG_LENGTH if a table has not the length that it was opened
- * with, if work has fewer than TSAROVIMA_WORK numbers or listing fewer than TSAROVIMA_LISTING, or record or answer fewer than 8 bytes.
+ * `answer`, and the tables, which a refused record leaves as they were. Kind 65 writes its listing into `listing`, or 0, 0, 4, 4 if
+ * it is refused; after code 5 the numbers past these four are not as they were. Any other record leaves `listing` alone. Numbers
+ * and bytes past these are as they were. What `work` holds before does not matter, and after a call it means nothing. Returns
+ * TSAROVIMA_DONE, whatever the answer's code is, or TSAROVIMA_WRONG_LENGTH if a table has not the length that it was opened with,
+ * if work has fewer than TSAROVIMA_WORK numbers or listing fewer than TSAROVIMA_LISTING, or record or answer fewer than 8 bytes.
  * The host must see to it that the tables came from tsarovima_open and these calls. */
 uint32_t tsarovima_record(uint16_t *parent, size_t parent_len, uint16_t *rank, size_t rank_len, uint16_t *rows, size_t rows_len,
                           uint16_t *trail, size_t trail_len, uint16_t *nodes, size_t nodes_len, uint16_t *live, size_t live_len,
                           uint16_t *work, size_t work_len, const uint8_t *record, size_t record_len, uint8_t *answer,
                           size_t answer_len, uint16_t *listing, size_t listing_len);
 
-/* Closes: the record of kind 65, with no record to lend. It reads, writes, returns and needs what tsarovima_record does; the tables are
- * as they were after it. */
+/* Closes: the record of kind 65, with no record to lend. It reads, writes, returns and needs what tsarovima_record does; the tables
+ * are as they were after it. */
 uint32_t tsarovima_close(uint16_t *parent, size_t parent_len, uint16_t *rank, size_t rank_len, uint16_t *rows, size_t rows_len,
                          uint16_t *trail, size_t trail_len, uint16_t *nodes, size_t nodes_len, uint16_t *live, size_t live_len,
                          uint16_t *work, size_t work_len, uint8_t *answer, size_t answer_len, uint16_t *listing,
@@ -97,9 +95,9 @@ typedef struct {
     uint16_t listing[TSAROVIMA_LISTING];
 } tsarovima_tables;
 
-/* The three calls with all lengths right, so each returns TSAROVIMA_DONE. What is left for the host to see to: tables are opened before
- * the other two are called, nobody else writes to them, and `record` and `answer` do not overlap. After a closing t->listing is the
- * listing. */
+/* The three calls with all lengths right, so each returns TSAROVIMA_DONE. What is left for the host to see to: tables are opened
+ * before the other two are called, nobody else writes to them, and `record` and `answer` do not overlap. After a closing t->listing
+ * is the listing. */
 static inline uint32_t tsarovima_tables_open(tsarovima_tables *t)
 {
     return tsarovima_open(t->parent, TSAROVIMA_ENTRIES, t->rank, TSAROVIMA_ENTRIES, t->rows, TSAROVIMA_ROWS, t->trail,
@@ -109,8 +107,8 @@ static inline uint32_t tsarovima_tables_open(tsarovima_tables *t)
 static inline uint32_t tsarovima_tables_record(tsarovima_tables *t, const uint8_t record[8], uint8_t answer[8])
 {
     return tsarovima_record(t->parent, TSAROVIMA_ENTRIES, t->rank, TSAROVIMA_ENTRIES, t->rows, TSAROVIMA_ROWS, t->trail,
-                            TSAROVIMA_TRAIL, t->nodes, TSAROVIMA_NODES, t->live, TSAROVIMA_LIVE, t->work, TSAROVIMA_WORK, record,
-                            8, answer, 8, t->listing, TSAROVIMA_LISTING);
+                            TSAROVIMA_TRAIL, t->nodes, TSAROVIMA_NODES, t->live, TSAROVIMA_LIVE, t->work, TSAROVIMA_WORK, record, 8,
+                            answer, 8, t->listing, TSAROVIMA_LISTING);
 }
 
 static inline uint32_t tsarovima_tables_close(tsarovima_tables *t, uint8_t answer[8])
