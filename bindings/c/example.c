@@ -1,4 +1,6 @@
-/* One table for many clients: each offers its nodes, a bad program is refused, and taking back leaves the table as it was. */
+/* One table for many clients: each offers its nodes, a bad program is refused, and taking back leaves the table as it was.
+ *
+ *     cc -I bindings/c bindings/c/example.c target/staticlib/libtsarovima_c.a -o example && ./example */
 
 #include "tsarovima.h"
 #include <stdio.h>

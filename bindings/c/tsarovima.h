@@ -1,8 +1,11 @@
 /* Tsarovima for C: the job call, and the record calls for a host that keeps one table for many clients.
  *
  * The functions are in libtsarovima_c.a, which `rt staticlib tsarovima_c` proves and writes (x86-64). They allocate nothing, keep
- * nothing between calls, and call nothing but memcpy and memset. A pointer and the length after it are one buffer: the length is
- * in elements, not bytes, and a buffer of no elements still needs a pointer that is not null. No two buffers of a call may overlap.
+ * nothing between calls, and call nothing but memcpy and memset.
+ *
+ * A pointer and the length after it are one buffer: the length is in elements, not bytes. What no call can look at is for the host
+ * to see to: the memory is its own, as long as it says; the pointer is not null, also where the length is 0; a buffer of 16-bit
+ * numbers is aligned to 2 bytes (bytes may lie anywhere); no two buffers of a call overlap.
  *
  * Formats, kinds, codes and the listing are those of document 01, "State and records" and "Job and listing". */
 
@@ -33,17 +36,19 @@ uint32_t tsarovima_job(const uint8_t *job, size_t job_len, uint8_t *answers, siz
 
 /* ---- record calls ----
  *
- * The tables are the host's: parent to live. It must not write to them, copy parts of them over each other, or lend tables to
- * tsarovima_record or tsarovima_close that did not come from tsarovima_open and these calls, with the lengths that they were opened
- * with: what the calls promise is proved for such tables alone, and with others they may read and write outside the buffers. One set
- * of tables serves one thread at a time. Nothing has to be given back: a host that is done with the tables forgets them.
+ * The tables are the host's: parent, rank, rows, trail, nodes and live. It must not write to them, copy parts of them over each
+ * other, or lend tables to tsarovima_record or tsarovima_close that did not come from tsarovima_open and these calls: what the two
+ * promise is proved for such tables alone, and with other numbers in them they may read and write outside the buffers. One set of
+ * tables serves one thread at a time. Nothing has to be given back: a host that is done with the tables forgets them.
  *
- * A wrong length is answered with 1, and then nothing was written. tsarovima_open looks at every length. The other two look at parent,
- * live and the buffers that are not tables; the lengths of rank to nodes belong to what the host must see to. */
+ * Each of the three looks at the length of every buffer before anything else. A wrong one is answered with TSAROVIMA_WRONG_LENGTH,
+ * whatever the tables hold, and then nothing was written to any buffer. */
 
 #define TSAROVIMA_ENTRIES 8225
+#define TSAROVIMA_ROWS 32900
 #define TSAROVIMA_TRAIL 24675
 #define TSAROVIMA_NODES 7168
+#define TSAROVIMA_LIVE 3
 #define TSAROVIMA_WORK 32900
 
 #define TSAROVIMA_DONE 0
@@ -51,32 +56,29 @@ uint32_t tsarovima_job(const uint8_t *job, size_t job_len, uint8_t *answers, siz
 
 /* Makes the tables a fresh state.
  *
- * Reads nothing: they may hold anything. Writes every number of parent, rank, shape, kind, left and right (TSAROVIMA_ENTRIES each),
- * trail (TSAROVIMA_TRAIL), nodes (TSAROVIMA_NODES) and live (3: entries, links, nodes kept).
- * Returns TSAROVIMA_DONE, or TSAROVIMA_WRONG_LENGTH if one of them is shorter or longer. */
-uint32_t tsarovima_open(uint16_t *parent, size_t parent_len, uint16_t *rank, size_t rank_len, uint16_t *shape, size_t shape_len,
-                        uint16_t *kind, size_t kind_len, uint16_t *left, size_t left_len, uint16_t *right, size_t right_len,
+ * Reads nothing: they may hold anything. Writes every number of parent and rank (TSAROVIMA_ENTRIES each), rows (TSAROVIMA_ROWS:
+ * kind, left, right and shape of each entry), trail (TSAROVIMA_TRAIL), nodes (TSAROVIMA_NODES) and live (TSAROVIMA_LIVE: entries,
+ * links, nodes kept). Returns TSAROVIMA_DONE, or TSAROVIMA_WRONG_LENGTH if one of them is shorter or longer. */
+uint32_t tsarovima_open(uint16_t *parent, size_t parent_len, uint16_t *rank, size_t rank_len, uint16_t *rows, size_t rows_len,
                         uint16_t *trail, size_t trail_len, uint16_t *nodes, size_t nodes_len, uint16_t *live, size_t live_len);
 
 /* Puts a record to the state: an offer, a take-back, or (kind 65) a closing.
  *
  * Reads the tables and the first eight bytes of `record`, which may be any bytes. Writes the answer in the first eight bytes of
- * `answer`, and the tables, which a refused record leaves as they were. Kind 65 writes its listing into `listing`, or 0, 0, 4, 4 if it
- * is refused; after code 5 the numbers past these four are not as they were. Any other record leaves `listing` alone. Numbers and bytes
- * past these are as they were. What `work` holds before does not matter, and after a call it means nothing.
- * Returns TSAROVIMA_DONE, whatever the answer's code is, or TSAROVIMA_WRONG_LENGTH if parent has not TSAROVIMA_ENTRIES numbers or live
- * not 3, if work has fewer than TSAROVIMA_WORK or listing fewer than TSAROVIMA_LISTING, or record or answer fewer than 8 bytes.
+ * `answer`, and the tables, which a refused record leaves as they were. Kind 65 writes its listing into `listing`, or 0, 0, 4, 4 if
+ * it is refused; after code 5 the numbers past these four are not as they were. Any other record leaves `listing` alone. Numbers
+ * and bytes past these are as they were. What `work` holds before does not matter, and after a call it means nothing. Returns
+ * TSAROVIMA_DONE, whatever the answer's code is, or TSAROVIMA_WRONG_LENGTH if a table has not the length that it was opened with,
+ * if work has fewer than TSAROVIMA_WORK numbers or listing fewer than TSAROVIMA_LISTING, or record or answer fewer than 8 bytes.
  * The host must see to it that the tables came from tsarovima_open and these calls. */
-uint32_t tsarovima_record(uint16_t *parent, size_t parent_len, uint16_t *rank, size_t rank_len, uint16_t *shape,
-                          size_t shape_len, uint16_t *kind, size_t kind_len, uint16_t *left, size_t left_len, uint16_t *right,
-                          size_t right_len, uint16_t *trail, size_t trail_len, uint16_t *nodes, size_t nodes_len,
-                          uint16_t *live, size_t live_len, uint16_t *work, size_t work_len, const uint8_t *record,
-                          size_t record_len, uint8_t *answer, size_t answer_len, uint16_t *listing, size_t listing_len);
+uint32_t tsarovima_record(uint16_t *parent, size_t parent_len, uint16_t *rank, size_t rank_len, uint16_t *rows, size_t rows_len,
+                          uint16_t *trail, size_t trail_len, uint16_t *nodes, size_t nodes_len, uint16_t *live, size_t live_len,
+                          uint16_t *work, size_t work_len, const uint8_t *record, size_t record_len, uint8_t *answer,
+                          size_t answer_len, uint16_t *listing, size_t listing_len);
 
-/* Closes: the record of kind 65, with no record to lend. It reads, writes, returns and needs what tsarovima_record does; the tables are
- * as they were after it. */
-uint32_t tsarovima_close(uint16_t *parent, size_t parent_len, uint16_t *rank, size_t rank_len, uint16_t *shape, size_t shape_len,
-                         uint16_t *kind, size_t kind_len, uint16_t *left, size_t left_len, uint16_t *right, size_t right_len,
+/* Closes: the record of kind 65, with no record to lend. It reads, writes, returns and needs what tsarovima_record does; the tables
+ * are as they were after it. */
+uint32_t tsarovima_close(uint16_t *parent, size_t parent_len, uint16_t *rank, size_t rank_len, uint16_t *rows, size_t rows_len,
                          uint16_t *trail, size_t trail_len, uint16_t *nodes, size_t nodes_len, uint16_t *live, size_t live_len,
                          uint16_t *work, size_t work_len, uint8_t *answer, size_t answer_len, uint16_t *listing,
                          size_t listing_len);
@@ -85,40 +87,35 @@ uint32_t tsarovima_close(uint16_t *parent, size_t parent_len, uint16_t *rank, si
 typedef struct {
     uint16_t parent[TSAROVIMA_ENTRIES];
     uint16_t rank[TSAROVIMA_ENTRIES];
-    uint16_t shape[TSAROVIMA_ENTRIES];
-    uint16_t kind[TSAROVIMA_ENTRIES];
-    uint16_t left[TSAROVIMA_ENTRIES];
-    uint16_t right[TSAROVIMA_ENTRIES];
+    uint16_t rows[TSAROVIMA_ROWS];
     uint16_t trail[TSAROVIMA_TRAIL];
     uint16_t nodes[TSAROVIMA_NODES];
-    uint16_t live[3];
+    uint16_t live[TSAROVIMA_LIVE];
     uint16_t work[TSAROVIMA_WORK];
     uint16_t listing[TSAROVIMA_LISTING];
 } tsarovima_tables;
 
-/* The three calls with all lengths right, so each returns TSAROVIMA_DONE. What is left for the host to see to: tables are opened before
- * the other two are called, and nobody else writes to them. After a closing t->listing is the listing. */
+/* The three calls with all lengths right, so each returns TSAROVIMA_DONE. What is left for the host to see to: tables are opened
+ * before the other two are called, nobody else writes to them, and `record` and `answer` do not overlap. After a closing t->listing
+ * is the listing. */
 static inline uint32_t tsarovima_tables_open(tsarovima_tables *t)
 {
-    return tsarovima_open(t->parent, TSAROVIMA_ENTRIES, t->rank, TSAROVIMA_ENTRIES, t->shape, TSAROVIMA_ENTRIES, t->kind,
-                          TSAROVIMA_ENTRIES, t->left, TSAROVIMA_ENTRIES, t->right, TSAROVIMA_ENTRIES, t->trail, TSAROVIMA_TRAIL,
-                          t->nodes, TSAROVIMA_NODES, t->live, 3);
+    return tsarovima_open(t->parent, TSAROVIMA_ENTRIES, t->rank, TSAROVIMA_ENTRIES, t->rows, TSAROVIMA_ROWS, t->trail,
+                          TSAROVIMA_TRAIL, t->nodes, TSAROVIMA_NODES, t->live, TSAROVIMA_LIVE);
 }
 
 static inline uint32_t tsarovima_tables_record(tsarovima_tables *t, const uint8_t record[8], uint8_t answer[8])
 {
-    return tsarovima_record(t->parent, TSAROVIMA_ENTRIES, t->rank, TSAROVIMA_ENTRIES, t->shape, TSAROVIMA_ENTRIES, t->kind,
-                            TSAROVIMA_ENTRIES, t->left, TSAROVIMA_ENTRIES, t->right, TSAROVIMA_ENTRIES, t->trail,
-                            TSAROVIMA_TRAIL, t->nodes, TSAROVIMA_NODES, t->live, 3, t->work, TSAROVIMA_WORK, record, 8, answer,
-                            8, t->listing, TSAROVIMA_LISTING);
+    return tsarovima_record(t->parent, TSAROVIMA_ENTRIES, t->rank, TSAROVIMA_ENTRIES, t->rows, TSAROVIMA_ROWS, t->trail,
+                            TSAROVIMA_TRAIL, t->nodes, TSAROVIMA_NODES, t->live, TSAROVIMA_LIVE, t->work, TSAROVIMA_WORK, record, 8,
+                            answer, 8, t->listing, TSAROVIMA_LISTING);
 }
 
 static inline uint32_t tsarovima_tables_close(tsarovima_tables *t, uint8_t answer[8])
 {
-    return tsarovima_close(t->parent, TSAROVIMA_ENTRIES, t->rank, TSAROVIMA_ENTRIES, t->shape, TSAROVIMA_ENTRIES, t->kind,
-                           TSAROVIMA_ENTRIES, t->left, TSAROVIMA_ENTRIES, t->right, TSAROVIMA_ENTRIES, t->trail, TSAROVIMA_TRAIL,
-                           t->nodes, TSAROVIMA_NODES, t->live, 3, t->work, TSAROVIMA_WORK, answer, 8, t->listing,
-                           TSAROVIMA_LISTING);
+    return tsarovima_close(t->parent, TSAROVIMA_ENTRIES, t->rank, TSAROVIMA_ENTRIES, t->rows, TSAROVIMA_ROWS, t->trail,
+                           TSAROVIMA_TRAIL, t->nodes, TSAROVIMA_NODES, t->live, TSAROVIMA_LIVE, t->work, TSAROVIMA_WORK, answer, 8,
+                           t->listing, TSAROVIMA_LISTING);
 }
 
 #ifdef __cplusplus

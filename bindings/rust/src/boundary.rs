@@ -8,7 +8,7 @@
 //! open before they return; its numbers are private to this file, and only [`Opened::put`] and [`Opened::close`] lend them out,
 //! to those two functions.
 
-use crate::limits::{ENTRIES, LISTING_NUMBERS, LIVE, NODES, TRAIL, WORK};
+use crate::limits::{ENTRIES, LISTING_NUMBERS, LIVE, NODES, ROWS, TRAIL, WORK};
 use crate::{Answer, JobRefusal};
 use core::mem::take;
 
@@ -26,10 +26,7 @@ extern "C" {
     fn tsarovima_open(
         parent: *mut u16, parent_len: usize,
         rank: *mut u16, rank_len: usize,
-        shape: *mut u16, shape_len: usize,
-        kind: *mut u16, kind_len: usize,
-        left: *mut u16, left_len: usize,
-        right: *mut u16, right_len: usize,
+        rows: *mut u16, rows_len: usize,
         trail: *mut u16, trail_len: usize,
         nodes: *mut u16, nodes_len: usize,
         live: *mut u16, live_len: usize,
@@ -38,10 +35,7 @@ extern "C" {
     fn tsarovima_record(
         parent: *mut u16, parent_len: usize,
         rank: *mut u16, rank_len: usize,
-        shape: *mut u16, shape_len: usize,
-        kind: *mut u16, kind_len: usize,
-        left: *mut u16, left_len: usize,
-        right: *mut u16, right_len: usize,
+        rows: *mut u16, rows_len: usize,
         trail: *mut u16, trail_len: usize,
         nodes: *mut u16, nodes_len: usize,
         live: *mut u16, live_len: usize,
@@ -54,10 +48,7 @@ extern "C" {
     fn tsarovima_close(
         parent: *mut u16, parent_len: usize,
         rank: *mut u16, rank_len: usize,
-        shape: *mut u16, shape_len: usize,
-        kind: *mut u16, kind_len: usize,
-        left: *mut u16, left_len: usize,
-        right: *mut u16, right_len: usize,
+        rows: *mut u16, rows_len: usize,
         trail: *mut u16, trail_len: usize,
         nodes: *mut u16, nodes_len: usize,
         live: *mut u16, live_len: usize,
@@ -73,8 +64,9 @@ const DONE: u32 = 0;
 /// The one way not to be done is a wrong length, and the lengths are constants of this crate: so the archive has other limits.
 const OTHER_LIMITS: &str = "libtsarovima_c.a is not the archive that this binding was written for";
 
-/// All the numbers of a checker: tables, working memory and listing.
-const NUMBERS: usize = 6 * ENTRIES + TRAIL + NODES + LIVE + WORK + LISTING_NUMBERS;
+/// The numbers of the tables, and all the numbers of a checker: tables, working memory and listing.
+const TABLE_NUMBERS: usize = 2 * ENTRIES + ROWS + TRAIL + NODES + LIVE;
+const NUMBERS: usize = TABLE_NUMBERS + WORK + LISTING_NUMBERS;
 
 /// Runs a job from a fresh state. It needs no checker, and any bytes may be lent.
 ///
@@ -161,10 +153,7 @@ pub(crate) struct Opened<'t> {
 struct Parts<'a> {
     parent: &'a mut [u16],
     rank: &'a mut [u16],
-    shape: &'a mut [u16],
-    kind: &'a mut [u16],
-    left: &'a mut [u16],
-    right: &'a mut [u16],
+    rows: &'a mut [u16],
     trail: &'a mut [u16],
     nodes: &'a mut [u16],
     live: &'a mut [u16],
@@ -173,7 +162,7 @@ struct Parts<'a> {
 }
 
 /// Where the count of nodes kept stands, the last of `live`, and where the listing begins, the last part.
-const KEPT_AT: usize = 6 * ENTRIES + TRAIL + NODES + LIVE - 1;
+const KEPT_AT: usize = TABLE_NUMBERS - 1;
 const LISTING_AT: usize = NUMBERS - LISTING_NUMBERS;
 
 fn cut<'a>(rest: &mut &'a mut [u16], length: usize) -> &'a mut [u16] {
@@ -189,10 +178,7 @@ fn parts(numbers: &mut [u16]) -> Parts<'_> {
     Parts {
         parent: cut(rest, ENTRIES),
         rank: cut(rest, ENTRIES),
-        shape: cut(rest, ENTRIES),
-        kind: cut(rest, ENTRIES),
-        left: cut(rest, ENTRIES),
-        right: cut(rest, ENTRIES),
+        rows: cut(rest, ROWS),
         trail: cut(rest, TRAIL),
         nodes: cut(rest, NODES),
         live: cut(rest, LIVE),
@@ -201,16 +187,13 @@ fn parts(numbers: &mut [u16]) -> Parts<'_> {
     }
 }
 
-/// A call with the nine tables in front, each as pointer and length. The list is written once, so no call has an order of its own.
+/// A call with the six tables in front, each as pointer and length. The list is written once, so no call has an order of its own.
 macro_rules! with_tables {
     ($call:ident, $t:ident $(, $more:expr)* $(,)?) => {
         $call(
             $t.parent.as_mut_ptr(), $t.parent.len(),
             $t.rank.as_mut_ptr(), $t.rank.len(),
-            $t.shape.as_mut_ptr(), $t.shape.len(),
-            $t.kind.as_mut_ptr(), $t.kind.len(),
-            $t.left.as_mut_ptr(), $t.left.len(),
-            $t.right.as_mut_ptr(), $t.right.len(),
+            $t.rows.as_mut_ptr(), $t.rows.len(),
             $t.trail.as_mut_ptr(), $t.trail.len(),
             $t.nodes.as_mut_ptr(), $t.nodes.len(),
             $t.live.as_mut_ptr(), $t.live.len(),
@@ -246,9 +229,9 @@ impl<'t> Opened<'t> {
         let t = parts(self.numbers_mut());
         let mut answer = [0; 8];
         // SAFETY: the premise, that the tables came from `tsarovima_open` and these calls, holds by construction: `self` is an
-        // `Opened`, which only `open` makes, and nobody but this and `close` has written to it since. Their lengths are those
-        // that were opened, for `parts` cuts the same ones each time. Each pointer and length are one slice or array, and none
-        // overlap: the tables are cut from one exclusive borrow, `record` and `answer` are this call's own.
+        // `Opened`, which only `open` makes, and nobody but this and `close` has written to it since. Each pointer and length are
+        // one slice or array, and none overlap: the tables are cut from one exclusive borrow, `record` and `answer` are this
+        // call's own.
         let returned = unsafe {
             with_tables!(
                 tsarovima_record,
@@ -272,7 +255,7 @@ impl<'t> Opened<'t> {
         let t = parts(self.numbers_mut());
         let mut answer = [0; 8];
         // SAFETY: the premise holds by construction, as in `put`: only `open` makes an `Opened`, and only `put` and `close` have
-        // written to it since. Lengths and overlap are as there.
+        // written to it since. Buffers and overlap are as there.
         let returned = unsafe {
             with_tables!(
                 tsarovima_close,

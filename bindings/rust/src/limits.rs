@@ -55,8 +55,11 @@ pub const MOST_ANSWER_BYTES: usize = 8 * MOST_RECORDS;
 /// ```
 pub const LISTING_NUMBERS: usize = 4 + 3 * ENTRIES + 2 * MOST_NODES;
 
-/// Rows of a class table: 33 entries that stand, and eight for each node.
+/// Entries of a class table: 33 that stand, and eight for each node.
 pub(crate) const ENTRIES: usize = 33 + 8 * MOST_NODES;
+
+/// Bound and shape: four numbers for each entry.
+pub(crate) const ROWS: usize = 4 * ENTRIES;
 
 /// Undo records: three numbers for each link.
 pub(crate) const TRAIL: usize = 3 * ENTRIES;

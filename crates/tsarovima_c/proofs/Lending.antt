@@ -1,5 +1,6 @@
--- Tables that a host lends: cleared, opened, and with their counts.
+-- What a host lends: looked at, cleared, opened, and with its counts.
 use mathlib.Core.Path.{_≡_, refl, sym, ap, _∙_, subst, subst₂}
+use mathlib.Core.Bool.{true, false}
 use mathlib.Core.List.{List, [], _∷_, append-nil}
 use Prim.Native.Nat.{ℕ, _+_, _*_, _^_, _≤_, _<_}
 use native.Mathlib.Nat.{le-antisymm}
@@ -14,7 +15,14 @@ use Rattle.combinators.specs.Entered.{entered}
 use Rattle.types.specs.States.{State, state, Opened}
 use Rattle.types.proofs.Begun.{opened-first}
 use Rattle.jobs.specs.Putting.{Recorded, Puts}
-use Rattle.tsarovima_c.specs.Lent.{tables, state-of, Sized, OpenedBy, Long, RecordedBy}
+use Rattle.tsarovima_c.specs.Lent.{tables, state-of, Denies, Sized, OpenedBy, Lent, lent, Long, RecordedBy}
+
+-- a flag that is written out says what holds
+pub denies : {P : Type 0} → (P → ⊥) → Denies true P
+denies h = (λ e. h, λ e. let z : _≡_ {A = ℕ} 0 1 = cc in absurd (omega arith))
+
+pub admits : {P : Type 0} → P → Denies false P
+admits h = (λ e. let z : _≡_ {A = ℕ} 0 1 = cc in absurd (omega arith), λ e. h)
 
 -- a table cleared to its end is one repeated value
 pub all-cleared : {table₀ table : List ℕ} {i : ℕ} → Clearing table₀ (length table₀) table i → length table₀ ≤ i → table ≡ replicate (length table₀) 0
@@ -41,13 +49,15 @@ fresh-opened rows links numbers q {p} {r} {t} {n} {e} {j} {kept} wide small hl h
 
 pub opened-by : {p₀ r₀ q₀ t₀ n₀ v₀ p₁ p r q t n : List ℕ} {e j kept : ℕ} → Sized (tables p₀ r₀ q₀ t₀ n₀ v₀) → p₁ ≡ replicate (length p₀) 0 → kept ≡ 0 →
     laid p r q (replicate (3 * length p₁) 0) e j ≡ entered (fresh (length p₁)) standing → t ≡ replicate (length t₀) 0 → n ≡ replicate (length n₀) 0 →
+    Sized (tables p r q t n (set (set (set v₀ 0 e) 1 j) 2 kept)) →
     OpenedBy (tables p₀ r₀ q₀ t₀ n₀ v₀) 0 (tables p r q t n (set (set (set v₀ 0 e) 1 j) 2 kept))
-opened-by {p₀} {r₀} {q₀} {t₀} {n₀} {v₀} {p₁} {p} {r} {q} {t} {n} {e} {j} {kept} sized clear none is et en =
-    let rows = sized .parent in
+opened-by {p₀} {r₀} {q₀} {t₀} {n₀} {v₀} {p₁} {p} {r} {q} {t} {n} {e} {j} {kept} sized clear none is et en then =
+    let rows = sized .parents in
     let long : length p₁ ≡ length p₀ = ap length clear ∙ length-replicate (length p₀) 0 in
-    let (o, nothing) = fresh-opened (length p₁) (length t₀) (length n₀) q (omega (arith, long, rows)) (omega (arith, long, rows)) (omega (arith, long, rows, sized .trail)) (sized .nodes) none is et en in
-    subst (λ (v : List ℕ). OpenedBy (tables p₀ r₀ q₀ t₀ n₀ v₀) 0 (tables p r q t n v)) (sym (three v₀ e j kept (sized .live)))
-    (OpenedBy.done sized o nothing)
+    let (o, nothing) = fresh-opened (length p₁) (length t₀) (length n₀) q (omega (arith, long, rows)) (omega (arith, long, rows)) (omega (arith, long, rows, sized .three-a-link)) (sized .seven-a-node) none is et en in
+    let stored = three v₀ e j kept (sized .counts) in
+    subst (λ (v : List ℕ). OpenedBy (tables p₀ r₀ q₀ t₀ n₀ v₀) 0 (tables p r q t n v)) (sym stored)
+    (OpenedBy.done sized (subst (λ (v : List ℕ). Sized (tables p r q t n v)) stored then) o nothing)
 
 -- one record put after none is one record put
 only-one : {bytes listed answers listed′ answers′ : List ℕ} {s s′ : State} {o : Opened 1024 s} {o′ : Opened 1024 s′} → Puts bytes 0 s o listed answers 1 s′ o′ listed′ answers′ →
@@ -55,10 +65,12 @@ only-one : {bytes listed answers listed′ answers′ : List ℕ} {s s′ : Stat
 only-one (Puts.more Puts.none x) = x
 
 -- a record put, and the counts stored
-pub recorded-by : {p₀ r₀ q₀ t₀ n₀ v₀ p r q t n work bytes listing listing′ answer answer′ : List ℕ} {o : Opened 1024 (state-of (tables p₀ r₀ q₀ t₀ n₀ v₀))} {e j kept : ℕ} →
-    Long (tables p₀ r₀ q₀ t₀ n₀ v₀) work listing bytes answer →
-    (o′ : Opened 1024 (state (laid p r q t e j) n kept)) × Puts bytes 0 (state-of (tables p₀ r₀ q₀ t₀ n₀ v₀)) o listing answer 1 (state (laid p r q t e j) n kept) o′ listing′ answer′ →
-    RecordedBy (tables p₀ r₀ q₀ t₀ n₀ v₀) o work bytes listing answer 0 (tables p r q t n (set (set (set v₀ 0 e) 1 j) 2 kept)) listing′ answer′
-recorded-by {p₀} {r₀} {q₀} {t₀} {n₀} {v₀} {p} {r} {q} {t} {n} {work} {bytes} {listing} {listing′} {answer} {answer′} {o} {e} {j} {kept} long (o′, puts) =
-    subst (λ (v : List ℕ). RecordedBy (tables p₀ r₀ q₀ t₀ n₀ v₀) o work bytes listing answer 0 (tables p r q t n v) listing′ answer′) (sym (three v₀ e j kept (long .1)))
-    (RecordedBy.done long (only-one puts))
+pub recorded-by : {was : Lent} {p r q t n bytes work listing answer : List ℕ} {e j kept : ℕ} → Long was bytes →
+    Sized (tables p r q t n (set (set (set (was .tables .live) 0 e) 1 j) 2 kept)) →
+    ((o : Opened 1024 (state-of (was .tables))) → (o′ : Opened 1024 (state (laid p r q t e j) n kept)) ×
+    Puts bytes 0 (state-of (was .tables)) o (was .listing) (was .answer) 1 (state (laid p r q t e j) n kept) o′ listing answer) →
+    RecordedBy was bytes 0 (lent (tables p r q t n (set (set (set (was .tables .live) 0 e) 1 j) 2 kept)) work listing answer)
+recorded-by {was} {p} {r} {q} {t} {n} {bytes} {work} {listing} {answer} {e} {j} {kept} long sized puts =
+    let stored = three (was .tables .live) e j kept (long .0 .counts) in
+    subst (λ (v : List ℕ). RecordedBy was bytes 0 (lent (tables p r q t n v) work listing answer)) (sym stored)
+    (RecordedBy.done long (subst (λ (v : List ℕ). Sized (tables p r q t n v)) stored sized) (λ o. only-one (puts o .1)))

@@ -1,1 +1,3 @@
 pub mod Lending
+pub mod Premise
+pub mod Once

@@ -1,11 +1,19 @@
--- Tables that a host lends, and what the record calls over them promise.
+-- What a host lends, and what the calls over it promise.
 use mathlib.Core.Path.{_≡_}
+use mathlib.Core.Bool.{Bool, true, false}
 use mathlib.Core.List.{List, [], _∷_}
-use Prim.Native.Nat.{ℕ, _≤_}
+use Prim.Native.Nat.{ℕ, _+_, _*_, _≤_}
 use lib.ListN.{length, getD}
 use Rattle.classes.specs.Columns.{laid}
 use Rattle.types.specs.States.{State, state, Opened}
+use Rattle.formats.specs.Header.{code-of}
+use Rattle.formats.specs.declared.header.Outcome.{Outcome}
+use Rattle.jobs.specs.Jobs.{Job}
 use Rattle.jobs.specs.Putting.{Recorded}
+
+-- a job run, its outcome as document 01's number
+abbrev pub RunBy : (job answers listing : List ℕ) → ℕ → (answers′ listing′ : List ℕ) → Type 0
+RunBy job answers listing r answers′ listing′ = (o : Outcome) × (r ≡ code-of o) × Job job answers listing o answers′ listing′
 
 -- the state's tables, and in `live` the numbers of entries, links and nodes kept
 pub record Tables : Type 0 where
@@ -21,34 +29,69 @@ tables p r q t n v = record { parent = p; rank = r; rows = q; trail = t; nodes =
 
 abbrev pub state-of : Tables → State
 state-of x =
-    state (laid (x .parent) (x .rank) (x .rows) (x .trail) (getD (x .live) 0 0) (getD (x .live) 1 0)) (x .nodes) (getD (x .live) 2 0)
+    let count : ℕ → ℕ = λ i. getD (x .live) i 0 in
+    state (laid (x .parent) (x .rank) (x .rows) (x .trail) (count 0) (count 1)) (x .nodes) (count 2)
 
--- as long as 1,024 nodes need
-pub record Sized (x : Tables) : Type 0 where
-  pub parent : length (x .parent) ≡ 8225
-  pub rank : length (x .rank) ≡ 8225
-  pub rows : length (x .rows) ≡ 32900
-  pub trail : length (x .trail) ≡ 24675
-  pub nodes : length (x .nodes) ≡ 7168
-  pub live : length (x .live) ≡ 3
+-- a flag that is up exactly when the fact does not hold
+abbrev pub Denies : Bool → Type 0 → Type 0
+Denies flag fact = (flag ≡ true → fact → ⊥) × (flag ≡ false → fact)
 
--- 0: the tables hold a fresh state. 1: a length is wrong, and nothing is written
-pub data OpenedBy (before : Tables) : ℕ → Tables → Type 0 where
-  done : {after : Tables} → Sized before → (o : Opened 1024 (state-of after)) → o .nodes ≡ [] → OpenedBy before 0 after
-  wrong-length : (Sized before → ⊥) → OpenedBy before 1 before
+-- rows for the entries of 1,024 nodes: 33 that stand, and eight for each node
+abbrev pub entry-rows : ℕ
+entry-rows = 33 + 8 * 1024
 
--- lengths that a record needs: entries, counts, working memory, listing, record, answer
-abbrev pub AsLong : ℕ → ℕ → ℕ → ℕ → ℕ → ℕ → Type 0
-AsLong entries counts marks numbers asked answered = (entries ≡ 8225) × (counts ≡ 3) × (32900 ≤ marks) × (26727 ≤ numbers) × (8 ≤ asked) × (8 ≤ answered)
+-- the lengths of tables for 1,024 nodes
+pub record TableLengths (parent rank rows trail nodes live : ℕ) : Type 0 where
+  pub parents : parent ≡ entry-rows
+  pub ranks : rank ≡ entry-rows
+  pub four-an-entry : rows ≡ 4 * entry-rows
+  pub three-a-link : trail ≡ 3 * entry-rows
+  pub seven-a-node : nodes ≡ 7 * 1024
+  pub counts : live ≡ 3
 
-abbrev pub Long : Tables → List ℕ → List ℕ → List ℕ → List ℕ → Type 0
-Long x work listing bytes answer = AsLong (length (x .parent)) (length (x .live)) (length work) (length listing) (length bytes) (length answer)
+abbrev pub Sized : Tables → Type 0
+Sized x =
+    TableLengths (length (x .parent)) (length (x .rank)) (length (x .rows))
+    (length (x .trail)) (length (x .nodes)) (length (x .live))
 
--- 0: the record in the first eight bytes is put, and its answer is written in the first eight. 1: a length is wrong, and nothing is written
-pub data RecordedBy (before : Tables) (o : Opened 1024 (state-of before)) (work bytes listing answer : List ℕ) : ℕ → Tables → List ℕ → List ℕ → Type 0 where
-  done : {after : Tables} {listing′ answer′ : List ℕ} → Long before work listing bytes answer →
-      Recorded (state-of before) o bytes 0 listing answer 0 (state-of after) listing′ answer′ → RecordedBy before o work bytes listing answer 0 after listing′ answer′
-  wrong-length : (Long before work listing bytes answer → ⊥) → RecordedBy before o work bytes listing answer 1 before listing answer
+-- 0: the tables hold a fresh state. 1: a length is wrong, and every table is as it was
+pub data OpenedBy (was : Tables) : ℕ → Tables → Type 0 where
+  done : {is : Tables} → Sized was → Sized is → (o : Opened 1024 (state-of is)) → o .nodes ≡ [] → OpenedBy was 0 is
+  wrong-length : (Sized was → ⊥) → OpenedBy was 1 was
+
+-- all that a record call is lent to write to: the tables, working memory, room for a listing and for an answer
+pub record Lent : Type 0 where
+  pub tables : Tables
+  pub work : List ℕ
+  pub listing : List ℕ
+  pub answer : List ℕ
+
+abbrev pub lent : Tables → List ℕ → List ℕ → List ℕ → Lent
+lent x w l a = record { tables = x; work = w; listing = l; answer = a }
+
+-- the least lengths of what is lent beside the tables
+pub record RoomLengths (work listing bytes answer : ℕ) : Type 0 where
+  pub marks : 4 * entry-rows ≤ work
+  pub numbers : 4 + 3 * entry-rows + 2 * 1024 ≤ listing
+  pub asked : 8 ≤ bytes
+  pub answered : 8 ≤ answer
+
+-- every length is right
+abbrev pub Long : Lent → List ℕ → Type 0
+Long x bytes = Sized (x .tables) × RoomLengths (length (x .work)) (length (x .listing)) (length bytes) (length (x .answer))
+
+-- the premise of the record calls: where every length is right, the tables came from opening and these calls
+abbrev pub OpenedIfLong : Lent → List ℕ → Type 0
+OpenedIfLong x bytes = Long x bytes → Opened 1024 (state-of (x .tables))
+
+-- 0: the record in the first eight bytes is put, and its answer is written in the first eight. 1: a length is wrong, and all that was
+-- lent is as it was
+pub data RecordedBy (was : Lent) (bytes : List ℕ) : ℕ → Lent → Type 0 where
+  done : {is : Lent} → Long was bytes → Sized (is .tables) →
+      ((o : Opened 1024 (state-of (was .tables))) →
+      Recorded (state-of (was .tables)) o bytes 0 (was .listing) (was .answer) 0 (state-of (is .tables)) (is .listing) (is .answer)) →
+      RecordedBy was bytes 0 is
+  wrong-length : (Long was bytes → ⊥) → RecordedBy was bytes 1 was
 
 -- the eight bytes of a closing
 abbrev pub closing-bytes : List ℕ

@@ -1,8 +1,8 @@
 // For hosts in C and Rust: the job call, and the record calls over tables that the host lends. `rt staticlib tsarovima_c` writes
 // the archive, tsarovima.h declares it. A slice is a pointer and a length to the host.
 //
-// The record calls have one premise: the tables came from tsarovima_open and these calls, and nobody else wrote to them. A length
-// that this does not fix is looked at, and a wrong one is answered with 1 and nothing else.
+// The record calls have one premise: the tables came from tsarovima_open and these calls, and nobody else wrote to them. Every
+// length is looked at first: a wrong one is answered with 1, whatever the tables hold, and leaves all that was lent as it was.
 
 use formats::header;
 use formats::header::EIGHT;
@@ -16,13 +16,9 @@ use types::limits::WORK;
 use types::state;
 use types::state::Live;
 ghost use mathlib.Core.Path.{_≡_};
-ghost use mathlib.Core.Bool.{true, false};
 ghost use lib.ListN.{length, replicate};
-ghost use Rattle.types.specs.States.{Opened};
-ghost use Rattle.formats.specs.Header.{code-of};
-ghost use Rattle.formats.specs.declared.header.Outcome.{Outcome};
-ghost use Rattle.jobs.specs.Jobs.{Job};
-ghost use Rattle.tsarovima_c.specs.Lent.{AsLong, tables, state-of, OpenedBy, RecordedBy, closing-bytes};
+ghost use Rattle.tsarovima_c.specs.Lent.{RunBy, Denies, Tables, tables, TableLengths, OpenedBy};
+ghost use Rattle.tsarovima_c.specs.Lent.{Lent, lent, RoomLengths, OpenedIfLong, RecordedBy, closing-bytes};
 
 // What the record calls return.
 const DONE: u32 = 0;
@@ -35,7 +31,7 @@ const LIVE: usize = 3;
 // Runs a job: 0, or a refusal 16 to 22 with both buffers as they were.
 #[no_mangle]
 pub extern "C" fn tsarovima_job(job: &[u8], answers: &mut [u8], listing: &mut [u16]) -> u32
-    ensures { λ r. ⌜ ((o : Outcome) × (r ≡ code-of o) × Job (now (job .entry)) (now (answers .entry)) (now (listing .entry)) o (now (answers .exit)) (now (listing .exit))) ⌝ }
+    ensures { λ r. ⌜ RunBy (now (job .entry)) (now (answers .entry)) (now (listing .entry)) r (now (answers .exit)) (now (listing .exit)) ⌝ }
 {
     header::code(jobs::job(job, answers, listing))
 }
@@ -50,6 +46,57 @@ fn clear(table: &mut [u16])
     }
 }
 
+// Whether a table is not as long as 1,024 nodes need.
+fn wrong_tables(
+    parent: usize,
+    rank: usize,
+    rows: usize,
+    trail: usize,
+    nodes: usize,
+    live: usize,
+) -> bool
+    ensures { λ r. ⌜ Denies r (TableLengths parent rank rows trail nodes live) ⌝ }
+{
+    if parent != ENTRIES {
+        return true;
+    }
+    if rank != ENTRIES {
+        return true;
+    }
+    if rows != ROWS {
+        return true;
+    }
+    if trail != TRAIL {
+        return true;
+    }
+    if nodes != NODES {
+        return true;
+    }
+    if live != LIVE {
+        return true;
+    }
+    false
+}
+
+// Whether what is lent beside the tables is too short for a record.
+fn wrong_room(work: usize, listing: usize, bytes: usize, answer: usize) -> bool
+    ensures { λ r. ⌜ Denies r (RoomLengths work listing bytes answer) ⌝ }
+{
+    if work < WORK {
+        return true;
+    }
+    if listing < LISTING {
+        return true;
+    }
+    if bytes < EIGHT {
+        return true;
+    }
+    if answer < EIGHT {
+        return true;
+    }
+    false
+}
+
 // Makes what the host lends a fresh state.
 #[no_mangle]
 pub extern "C" fn tsarovima_open(
@@ -60,25 +107,21 @@ pub extern "C" fn tsarovima_open(
     nodes: &mut [u16],
     live: &mut [u16],
 ) -> u32
-    ensures { λ r. ⌜ OpenedBy (tables (now (parent .entry)) (now (rank .entry)) (now (rows .entry)) (now (trail .entry)) (now (nodes .entry)) (now (live .entry))) r
-        (tables (now (parent .exit)) (now (rank .exit)) (now (rows .exit)) (now (trail .exit)) (now (nodes .exit)) (now (live .exit))) ⌝ }
+    ensures { λ r. ⌜ (
+        let was : Tables = tables (now (parent .entry)) (now (rank .entry)) (now (rows .entry))
+        (now (trail .entry)) (now (nodes .entry)) (now (live .entry)) in
+        let is : Tables = tables (now (parent .exit)) (now (rank .exit)) (now (rows .exit))
+        (now (trail .exit)) (now (nodes .exit)) (now (live .exit)) in
+        OpenedBy was r is) ⌝ }
 {
-    if parent.len() != ENTRIES {
-        return WRONG_LENGTH;
-    }
-    if rank.len() != ENTRIES {
-        return WRONG_LENGTH;
-    }
-    if rows.len() != ROWS {
-        return WRONG_LENGTH;
-    }
-    if trail.len() != TRAIL {
-        return WRONG_LENGTH;
-    }
-    if nodes.len() != NODES {
-        return WRONG_LENGTH;
-    }
-    if live.len() != LIVE {
+    if wrong_tables(
+        parent.len(),
+        rank.len(),
+        rows.len(),
+        trail.len(),
+        nodes.len(),
+        live.len(),
+    ) {
         return WRONG_LENGTH;
     }
     clear(parent);
@@ -93,39 +136,7 @@ pub extern "C" fn tsarovima_open(
     DONE
 }
 
-// Whether a buffer of the host's is not as long as a record needs.
-fn wrong_length(
-    entries: usize,
-    counts: usize,
-    marks: usize,
-    numbers: usize,
-    asked: usize,
-    answered: usize,
-) -> bool
-    ensures { λ r. ⌜ (r ≡ true → AsLong entries counts marks numbers asked answered → ⊥) × (r ≡ false → AsLong entries counts marks numbers asked answered) ⌝ }
-{
-    if entries != ENTRIES {
-        return true;
-    }
-    if counts != LIVE {
-        return true;
-    }
-    if marks < WORK {
-        return true;
-    }
-    if numbers < LISTING {
-        return true;
-    }
-    if asked < EIGHT {
-        return true;
-    }
-    if answered < EIGHT {
-        return true;
-    }
-    false
-}
-
-// Puts the record in the first eight bytes of `record` to the state, and writes its answer. A record of kind 65 writes its listing.
+// Puts the record in the first eight of `bytes` to the state, and writes its answer. A record of kind 65 writes its listing.
 #[no_mangle]
 pub extern "C" fn tsarovima_record(
     parent: &mut [u16],
@@ -139,21 +150,30 @@ pub extern "C" fn tsarovima_record(
     answer: &mut [u8],
     listing: &mut [u16],
 ) -> u32
-    requires { ⌜ Opened 1024 (state-of (tables (now parent) (now rank) (now rows) (now trail) (now nodes) (now live))) ⌝ }
-    ensures { λ r. ⌜ ((o : Opened 1024 (state-of (tables (now (parent .entry)) (now (rank .entry)) (now (rows .entry)) (now (trail .entry)) (now (nodes .entry)) (now (live .entry))))) →
-        RecordedBy (tables (now (parent .entry)) (now (rank .entry)) (now (rows .entry)) (now (trail .entry)) (now (nodes .entry)) (now (live .entry))) o
-        (now (work .entry)) (now (bytes .entry)) (now (listing .entry)) (now (answer .entry)) r
-        (tables (now (parent .exit)) (now (rank .exit)) (now (rows .exit)) (now (trail .exit)) (now (nodes .exit)) (now (live .exit)))
-        (now (listing .exit)) (now (answer .exit))) ⌝ }
+    requires { ⌜ (
+        let is : Lent = lent (tables (now parent) (now rank) (now rows) (now trail) (now nodes) (now live))
+        (now work) (now listing) (now answer) in
+        OpenedIfLong is (now bytes)) ⌝ }
+    ensures { λ r. ⌜ (
+        let was : Lent = lent (tables (now (parent .entry)) (now (rank .entry)) (now (rows .entry))
+        (now (trail .entry)) (now (nodes .entry)) (now (live .entry)))
+        (now (work .entry)) (now (listing .entry)) (now (answer .entry)) in
+        let is : Lent = lent (tables (now (parent .exit)) (now (rank .exit)) (now (rows .exit))
+        (now (trail .exit)) (now (nodes .exit)) (now (live .exit)))
+        (now (work .exit)) (now (listing .exit)) (now (answer .exit)) in
+        RecordedBy was (now (bytes .entry)) r is) ⌝ }
 {
-    if wrong_length(
+    if wrong_tables(
         parent.len(),
+        rank.len(),
+        rows.len(),
+        trail.len(),
+        nodes.len(),
         live.len(),
-        work.len(),
-        listing.len(),
-        bytes.len(),
-        answer.len(),
     ) {
+        return WRONG_LENGTH;
+    }
+    if wrong_room(work.len(), listing.len(), bytes.len(), answer.len()) {
         return WRONG_LENGTH;
     }
     let entries = live[0];
@@ -196,12 +216,18 @@ pub extern "C" fn tsarovima_close(
     answer: &mut [u8],
     listing: &mut [u16],
 ) -> u32
-    requires { ⌜ Opened 1024 (state-of (tables (now parent) (now rank) (now rows) (now trail) (now nodes) (now live))) ⌝ }
-    ensures { λ r. ⌜ ((o : Opened 1024 (state-of (tables (now (parent .entry)) (now (rank .entry)) (now (rows .entry)) (now (trail .entry)) (now (nodes .entry)) (now (live .entry))))) →
-        RecordedBy (tables (now (parent .entry)) (now (rank .entry)) (now (rows .entry)) (now (trail .entry)) (now (nodes .entry)) (now (live .entry))) o
-        (now (work .entry)) closing-bytes (now (listing .entry)) (now (answer .entry)) r
-        (tables (now (parent .exit)) (now (rank .exit)) (now (rows .exit)) (now (trail .exit)) (now (nodes .exit)) (now (live .exit)))
-        (now (listing .exit)) (now (answer .exit))) ⌝ }
+    requires { ⌜ (
+        let is : Lent = lent (tables (now parent) (now rank) (now rows) (now trail) (now nodes) (now live))
+        (now work) (now listing) (now answer) in
+        OpenedIfLong is closing-bytes) ⌝ }
+    ensures { λ r. ⌜ (
+        let was : Lent = lent (tables (now (parent .entry)) (now (rank .entry)) (now (rows .entry))
+        (now (trail .entry)) (now (nodes .entry)) (now (live .entry)))
+        (now (work .entry)) (now (listing .entry)) (now (answer .entry)) in
+        let is : Lent = lent (tables (now (parent .exit)) (now (rank .exit)) (now (rows .exit))
+        (now (trail .exit)) (now (nodes .exit)) (now (live .exit)))
+        (now (work .exit)) (now (listing .exit)) (now (answer .exit)) in
+        RecordedBy was closing-bytes r is) ⌝ }
 {
     let bytes = [65, 0, 0, 0, 0, 0, 0, 0];
     tsarovima_record(

@@ -1,6 +1,6 @@
 //! A host for the tests of the boundary: it lends buffers between marks, as long as the test says, and calls the functions as they are.
 
-use super::{tsarovima_close, tsarovima_open, tsarovima_record, Parts, ENTRIES, LISTING_NUMBERS, LIVE, NODES, TRAIL, WORK};
+use super::{tsarovima_close, tsarovima_open, tsarovima_record, Parts, ENTRIES, LISTING_NUMBERS, LIVE, NODES, ROWS, TRAIL, WORK};
 use std::vec;
 use std::vec::Vec;
 
@@ -11,20 +11,22 @@ pub(super) const BYTE: u8 = 0xA5;
 /// Numbers on either side of a buffer that no call may touch. A length one too long reaches into them.
 pub(super) const MARGIN: usize = 8;
 
-/// Lengths of the numbers that a host lends, in the order of the calls: nine tables, work, listing.
-pub(super) const EXACT: [usize; 11] =
-    [ENTRIES, ENTRIES, ENTRIES, ENTRIES, ENTRIES, ENTRIES, TRAIL, NODES, LIVE, WORK, LISTING_NUMBERS];
-pub(super) const TABLES: usize = 9;
+/// Lengths of the numbers that a host lends, in the order of the calls: six tables, work, listing.
+pub(super) const LENT: usize = 8;
+pub(super) const EXACT: [usize; LENT] = [ENTRIES, ENTRIES, ROWS, TRAIL, NODES, LIVE, WORK, LISTING_NUMBERS];
+pub(super) const TABLES: usize = 6;
 pub(super) const PARENT: usize = 0;
-pub(super) const LIVE_AT: usize = 8;
-pub(super) const WORK_AT: usize = 9;
-pub(super) const LISTING_INDEX: usize = 10;
+pub(super) const TRAIL_AT: usize = 3;
+pub(super) const NODES_AT: usize = 4;
+pub(super) const LIVE_AT: usize = 5;
+pub(super) const WORK_AT: usize = 6;
+pub(super) const LISTING_INDEX: usize = 7;
 
 /// What a host lends, and how long it says that each is.
 #[derive(Clone, PartialEq)]
 pub(super) struct Host {
-    pub(super) numbers: [Vec<u16>; 11],
-    pub(super) said: [usize; 11],
+    pub(super) numbers: [Vec<u16>; LENT],
+    pub(super) said: [usize; LENT],
     pub(super) record: Vec<u8>,
     pub(super) record_said: usize,
     pub(super) answer: Vec<u8>,
@@ -32,16 +34,13 @@ pub(super) struct Host {
 }
 
 /// The buffers as the calls take them, each as long as is said.
-fn lent(numbers: &mut [Vec<u16>; 11], said: [usize; 11]) -> Parts<'_> {
+fn lent(numbers: &mut [Vec<u16>; LENT], said: [usize; LENT]) -> Parts<'_> {
     let mut slices = numbers.iter_mut().zip(said).map(|(buffer, length)| &mut buffer[MARGIN..MARGIN + length]);
     let mut next = || slices.next().unwrap();
     Parts {
         parent: next(),
         rank: next(),
-        shape: next(),
-        kind: next(),
-        left: next(),
-        right: next(),
+        rows: next(),
         trail: next(),
         nodes: next(),
         live: next(),
@@ -79,7 +78,7 @@ impl Host {
         let t = lent(&mut self.numbers, self.said);
         let record = &self.record[MARGIN..MARGIN + self.record_said];
         let answer = &mut self.answer[MARGIN..MARGIN + self.answer_said];
-        // SAFETY: as in `open`; the tables were opened, and a length that is not theirs is one that the call looks at.
+        // SAFETY: as in `open`; where every length is right, the tables were opened.
         unsafe {
             with_tables!(
                 tsarovima_record,

@@ -1,10 +1,7 @@
-//! Each function of the boundary, called with lengths at the limits: one short, exact, one long. Every buffer lies between marks,
-//! and what a call must leave alone is compared with what was there before.
-//!
-//! `tsarovima_record` and `tsarovima_close` look at the lengths of parent, live, work, listing, record and answer. The other
-//! tables' lengths belong to their premise, so no test gets them wrong.
+//! Each function of the boundary, called with each length at its limit: one short, exact, one long. Every buffer lies between
+//! marks, and what a call must leave alone is compared with what was there before.
 
-use super::host::{Host, BYTE, EXACT, LISTING_INDEX, LIVE_AT, MARGIN, MARK, PARENT, TABLES, WORK_AT};
+use super::host::{Host, BYTE, EXACT, LISTING_INDEX, LIVE_AT, MARGIN, MARK, NODES_AT, PARENT, TABLES, TRAIL_AT, WORK_AT};
 use super::{job, JobRefusal, LISTING_NUMBERS};
 use std::vec;
 use std::vec::Vec;
@@ -54,7 +51,7 @@ fn open_makes_a_fresh_state_of_whatever_is_lent() {
     assert_eq!(host.part(LIVE_AT), [33, 0, 0]);
     // parent: each of the 33 entries is its own, and 0 past them; trail and nodes are 0
     assert!(host.part(PARENT).iter().enumerate().all(|(at, p)| usize::from(*p) == if at < 33 { at } else { 0 }));
-    assert!(host.part(6).iter().chain(host.part(7)).all(|number| *number == 0));
+    assert!(host.part(TRAIL_AT).iter().chain(host.part(NODES_AT)).all(|number| *number == 0));
     // work and listing are no part of opening
     assert!(host.part(WORK_AT).iter().chain(host.part(LISTING_INDEX)).all(|number| *number == MARK));
 
@@ -68,21 +65,34 @@ fn open_makes_a_fresh_state_of_whatever_is_lent() {
     assert!(host.numbers[..TABLES] == fresh.numbers[..TABLES]);
 }
 
-#[test]
-fn record_refuses_each_wrong_length_and_writes_nothing() {
-    let mut wrong: Vec<Host> = Vec::new();
-    for (which, by) in [(PARENT, -1), (PARENT, 1), (LIVE_AT, -1), (LIVE_AT, 1), (WORK_AT, -1), (LISTING_INDEX, -1)] {
-        let mut host = Host::opened();
-        host.said[which] = off(EXACT[which], by);
+/// A host with each wrong length of what the record calls look at: a table one short, one long and of nothing; work, listing and
+/// answer one short. One more for each, whose tables were never opened: a wrong length asks nothing of them.
+fn wrongly_long() -> Vec<Host> {
+    let mut wrong = Vec::new();
+    for made in [Host::opened, Host::new] {
+        for (which, exact) in EXACT.into_iter().enumerate() {
+            let table = which < TABLES;
+            for length in [exact - 1, exact + 1, 0].into_iter().take(if table { 3 } else { 1 }) {
+                let mut host = made();
+                host.said[which] = length;
+                wrong.push(host);
+            }
+        }
+        let mut host = made();
+        host.answer_said = 7;
         wrong.push(host);
     }
-    let mut host = Host::opened();
-    host.record_said = 7;
-    wrong.push(host);
-    let mut host = Host::opened();
-    host.answer_said = 7;
-    wrong.push(host);
+    wrong
+}
 
+#[test]
+fn record_refuses_each_wrong_length_and_writes_nothing() {
+    let mut wrong = wrongly_long();
+    for made in [Host::opened, Host::new] {
+        let mut host = made();
+        host.record_said = 7;
+        wrong.push(host);
+    }
     for host in &mut wrong {
         for record in [UNIT, CLOSE] {
             host.record[MARGIN..MARGIN + 8].copy_from_slice(&record);
@@ -135,18 +145,11 @@ fn a_refused_record_leaves_the_very_tables() {
 
 #[test]
 fn close_refuses_each_wrong_length_and_writes_nothing() {
-    for (which, by) in [(PARENT, -1), (PARENT, 1), (LIVE_AT, -1), (LIVE_AT, 1), (WORK_AT, -1), (LISTING_INDEX, -1)] {
-        let mut host = Host::opened();
-        host.said[which] = off(EXACT[which], by);
+    for mut host in wrongly_long() {
         let before = host.clone();
         assert_eq!(host.close(), 1);
         assert!(host == before);
     }
-    let mut host = Host::opened();
-    host.answer_said = 7;
-    let before = host.clone();
-    assert_eq!(host.close(), 1);
-    assert!(host == before);
 }
 
 #[test]
