@@ -12,6 +12,7 @@ use Rattle.classes.specs.Columns.{laid}
 use Rattle.nodes.specs.Layout.{standing}
 use Rattle.closing.proofs.Beginning.{Clearing}
 use Rattle.combinators.specs.Entered.{entered}
+use Rattle.types.specs.Limits.{most-nodes, most-entries, nodes-long}
 use Rattle.types.specs.States.{State, state, Opened}
 use Rattle.types.proofs.Begun.{opened-first}
 use Rattle.jobs.specs.Putting.{Recorded, Puts}
@@ -38,36 +39,41 @@ three (a ∷ []) e l k h = absurd (omega (arith, h))
 three (a ∷ b ∷ []) e l k h = absurd (omega (arith, h))
 three (a ∷ b ∷ c ∷ d ∷ v) e l k h = absurd (omega (arith, h))
 
+blank : (m k : ℕ) {l : List ℕ} → l ≡ replicate m 0 → m ≡ k → replicate k 0 ≡ l
+blank m k is same = sym (is ∙ ap (λ (i : ℕ). replicate i 0) same)
+
 -- cleared tables that were opened are a fresh state
-fresh-opened : (rows links numbers : ℕ) (q : List ℕ) {p r t n : List ℕ} {e j kept : ℕ} → 33 + 8 * 1024 ≤ rows → rows < 2 ^ 16 → links ≡ 3 * rows → numbers ≡ 7 * 1024 → kept ≡ 0 →
-    laid p r q (replicate (3 * rows) 0) e j ≡ entered (fresh rows) standing → t ≡ replicate links 0 → n ≡ replicate numbers 0 →
-    (o : Opened 1024 (state (laid p r q t e j) n kept)) × (o .nodes ≡ [])
-fresh-opened rows links numbers q {p} {r} {t} {n} {e} {j} {kept} wide small hl hn none is et en =
-    subst₂ (λ (x y : List ℕ). (o : Opened 1024 (state (laid p r q x e j) y kept)) × (o .nodes ≡ []))
-    (sym (et ∙ ap (λ (m : ℕ). replicate m 0) hl)) (sym (en ∙ ap (λ (m : ℕ). replicate m 0) hn))
-    (opened-first 1024 rows wide small none is)
+fresh-opened : (rows ranks links numbers : ℕ) (q : List ℕ) {p r t n : List ℕ} {e j kept : ℕ} → most-entries ≤ rows → rows < 2 ^ 16 → ranks ≡ rows → links ≡ 3 * rows → numbers ≡ nodes-long → kept ≡ 0 →
+    laid p (replicate rows 0) q (replicate (3 * rows) 0) e j ≡ entered (fresh rows) standing → r ≡ replicate ranks 0 → t ≡ replicate links 0 → n ≡ replicate numbers 0 →
+    (o : Opened most-nodes (state (laid p r q t e j) n kept)) × (o .nodes ≡ [])
+fresh-opened rows ranks links numbers q {p} {r} {t} {n} {e} {j} {kept} wide small hr hl hn none is er et en =
+    subst (λ (x : List ℕ). (o : Opened most-nodes (state (laid p x q t e j) n kept)) × (o .nodes ≡ [])) (blank ranks rows er hr)
+    (subst₂ (λ (x y : List ℕ). (o : Opened most-nodes (state (laid p (replicate rows 0) q x e j) y kept)) × (o .nodes ≡ []))
+    (blank links (3 * rows) et hl) (blank numbers nodes-long en hn)
+    (opened-first most-nodes rows wide small none is))
 
 pub opened-by : {p₀ r₀ q₀ t₀ n₀ v₀ p₁ p r q t n : List ℕ} {e j kept : ℕ} → Sized (tables p₀ r₀ q₀ t₀ n₀ v₀) → p₁ ≡ replicate (length p₀) 0 → kept ≡ 0 →
-    laid p r q (replicate (3 * length p₁) 0) e j ≡ entered (fresh (length p₁)) standing → t ≡ replicate (length t₀) 0 → n ≡ replicate (length n₀) 0 →
+    laid p (replicate (length p₁) 0) q (replicate (3 * length p₁) 0) e j ≡ entered (fresh (length p₁)) standing → r ≡ replicate (length r₀) 0 → t ≡ replicate (length t₀) 0 → n ≡ replicate (length n₀) 0 →
     Sized (tables p r q t n (set (set (set v₀ 0 e) 1 j) 2 kept)) →
     OpenedBy (tables p₀ r₀ q₀ t₀ n₀ v₀) 0 (tables p r q t n (set (set (set v₀ 0 e) 1 j) 2 kept))
-opened-by {p₀} {r₀} {q₀} {t₀} {n₀} {v₀} {p₁} {p} {r} {q} {t} {n} {e} {j} {kept} sized clear none is et en then =
+opened-by {p₀} {r₀} {q₀} {t₀} {n₀} {v₀} {p₁} {p} {r} {q} {t} {n} {e} {j} {kept} sized clear none is er et en then =
     let rows = sized .parents in
     let long : length p₁ ≡ length p₀ = ap length clear ∙ length-replicate (length p₀) 0 in
-    let (o, nothing) = fresh-opened (length p₁) (length t₀) (length n₀) q (omega (arith, long, rows)) (omega (arith, long, rows)) (omega (arith, long, rows, sized .three-a-link)) (sized .seven-a-node) none is et en in
+    let (o, nothing) = fresh-opened (length p₁) (length r₀) (length t₀) (length n₀) q (omega (arith, long, rows)) (omega (arith, long, rows))
+        (omega (arith, long, rows, sized .ranks)) (omega (arith, long, rows, sized .three-a-link)) (sized .seven-a-node) none is er et en in
     let stored = three v₀ e j kept (sized .counts) in
     subst (λ (v : List ℕ). OpenedBy (tables p₀ r₀ q₀ t₀ n₀ v₀) 0 (tables p r q t n v)) (sym stored)
     (OpenedBy.done sized (subst (λ (v : List ℕ). Sized (tables p r q t n v)) stored then) o nothing)
 
 -- one record put after none is one record put
-only-one : {bytes listed answers listed′ answers′ : List ℕ} {s s′ : State} {o : Opened 1024 s} {o′ : Opened 1024 s′} → Puts bytes 0 s o listed answers 1 s′ o′ listed′ answers′ →
+only-one : {bytes listed answers listed′ answers′ : List ℕ} {s s′ : State} {o : Opened most-nodes s} {o′ : Opened most-nodes s′} → Puts bytes 0 s o listed answers 1 s′ o′ listed′ answers′ →
     Recorded s o bytes 0 listed answers 0 s′ listed′ answers′
 only-one (Puts.more Puts.none x) = x
 
 -- a record put, and the counts stored
 pub recorded-by : {was : Lent} {p r q t n bytes work listing answer : List ℕ} {e j kept : ℕ} → Long was bytes →
     Sized (tables p r q t n (set (set (set (was .tables .live) 0 e) 1 j) 2 kept)) →
-    ((o : Opened 1024 (state-of (was .tables))) → (o′ : Opened 1024 (state (laid p r q t e j) n kept)) ×
+    ((o : Opened most-nodes (state-of (was .tables))) → (o′ : Opened most-nodes (state (laid p r q t e j) n kept)) ×
     Puts bytes 0 (state-of (was .tables)) o (was .listing) (was .answer) 1 (state (laid p r q t e j) n kept) o′ listing answer) →
     RecordedBy was bytes 0 (lent (tables p r q t n (set (set (set (was .tables .live) 0 e) 1 j) 2 kept)) work listing answer)
 recorded-by {was} {p} {r} {q} {t} {n} {bytes} {work} {listing} {answer} {e} {j} {kept} long sized puts =

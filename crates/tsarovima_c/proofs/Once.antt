@@ -7,6 +7,7 @@ use native.Mathlib.Omega.{arith}
 use lib.ListN.{length, getD, take, drop}
 use Rattle.classes.specs.Columns.{column}
 use Rattle.classes.proofs.Columns.{same-columns}
+use Rattle.types.specs.Limits.{most-nodes, most-entries}
 use Rattle.types.specs.States.{State, Opened}
 use Rattle.types.specs.declared.Answer.{Answer}
 use Rattle.types.specs.declared.Answer.the-variants.{Endless}
@@ -15,7 +16,7 @@ use Rattle.formats.specs.Header.{code-of}
 use Rattle.formats.specs.Bytes.{answer-bytes}
 use Rattle.jobs.specs.Putting.{Recorded}
 use Rattle.jobs.proofs.Once as jobs
-use Rattle.tsarovima_c.specs.Lent.{RunBy, Tables, state-of, entry-rows, Sized, OpenedBy, Lent, OpenedIfLong, RecordedBy}
+use Rattle.tsarovima_c.specs.Lent.{RunBy, Tables, state-of, Sized, OpenedBy, Lent, OpenedIfLong, RecordedBy}
 
 pub job-once : {job answers listing answers₁ listing₁ answers₂ listing₂ : List ℕ} {r₁ r₂ : ℕ} →
     RunBy job answers listing r₁ answers₁ listing₁ → RunBy job answers listing r₂ answers₂ listing₂ →
@@ -50,7 +51,7 @@ module _ (x y : Tables) (same : state-of x ≡ state-of y) where
 
   same-tables : Sized x → Sized y → x ≡ y
   same-tables long also =
-      let rows : x .rows ≡ y .rows = same-columns entry-rows (x .rows) (y .rows) (long .four-an-entry) (also .four-an-entry) columns in
+      let rows : x .rows ≡ y .rows = same-columns most-entries (x .rows) (y .rows) (long .four-an-entry) (also .four-an-entry) columns in
       let live : x .live ≡ y .live = counts (long .counts) (also .counts) in
       λ i. record {
         parent = same i .classes .parent;
@@ -69,7 +70,7 @@ opened-once (OpenedBy.wrong-length not) (OpenedBy.done sized long o none) = absu
 opened-once (OpenedBy.wrong-length not) (OpenedBy.wrong-length not′) = (refl, refl)
 
 -- an answer whose first byte is not 5 is no cycle
-no-cycle : {s s′ : State} {o : Opened 1024 s} {bytes listed answer listed′ answer′ : List ℕ} (x : Recorded s o bytes 0 listed answer 0 s′ listed′ answer′) →
+no-cycle : {s s′ : State} {o : Opened most-nodes s} {bytes listed answer listed′ answer′ : List ℕ} (x : Recorded s o bytes 0 listed answer 0 s′ listed′ answer′) →
     (getD answer′ 0 0 ≡ 5 → ⊥) → (i : ℕ) → x .answer ≡ Endless i → ⊥
 no-cycle {answer = answer} x not i e =
     not (ap (λ (l : List ℕ). getD l 0 0) (x .written) ∙ ap (λ (a : Answer). getD (take 0 answer ++ answer-bytes a ++ drop 8 answer) 0 0) e)

@@ -2,9 +2,10 @@
 use mathlib.Core.Path.{_≡_}
 use mathlib.Core.Bool.{Bool, true, false}
 use mathlib.Core.List.{List, [], _∷_}
-use Prim.Native.Nat.{ℕ, _+_, _*_, _≤_}
+use Prim.Native.Nat.{ℕ, _≤_}
 use lib.ListN.{length, getD}
 use Rattle.classes.specs.Columns.{laid}
+use Rattle.types.specs.Limits.{most-nodes, most-entries, rows-long, trail-long, nodes-long, work-long, longest-listing}
 use Rattle.types.specs.States.{State, state, Opened}
 use Rattle.formats.specs.Header.{code-of}
 use Rattle.formats.specs.declared.header.Outcome.{Outcome}
@@ -36,17 +37,13 @@ state-of x =
 abbrev pub Denies : Bool → Type 0 → Type 0
 Denies flag fact = (flag ≡ true → fact → ⊥) × (flag ≡ false → fact)
 
--- rows for the entries of 1,024 nodes: 33 that stand, and eight for each node
-abbrev pub entry-rows : ℕ
-entry-rows = 33 + 8 * 1024
-
 -- the lengths of tables for 1,024 nodes
 pub record TableLengths (parent rank rows trail nodes live : ℕ) : Type 0 where
-  pub parents : parent ≡ entry-rows
-  pub ranks : rank ≡ entry-rows
-  pub four-an-entry : rows ≡ 4 * entry-rows
-  pub three-a-link : trail ≡ 3 * entry-rows
-  pub seven-a-node : nodes ≡ 7 * 1024
+  pub parents : parent ≡ most-entries
+  pub ranks : rank ≡ most-entries
+  pub four-an-entry : rows ≡ rows-long
+  pub three-a-link : trail ≡ trail-long
+  pub seven-a-node : nodes ≡ nodes-long
   pub counts : live ≡ 3
 
 abbrev pub Sized : Tables → Type 0
@@ -56,7 +53,7 @@ Sized x =
 
 -- 0: the tables hold a fresh state. 1: a length is wrong, and every table is as it was
 pub data OpenedBy (was : Tables) : ℕ → Tables → Type 0 where
-  done : {is : Tables} → Sized was → Sized is → (o : Opened 1024 (state-of is)) → o .nodes ≡ [] → OpenedBy was 0 is
+  done : {is : Tables} → Sized was → Sized is → (o : Opened most-nodes (state-of is)) → o .nodes ≡ [] → OpenedBy was 0 is
   wrong-length : (Sized was → ⊥) → OpenedBy was 1 was
 
 -- all that a record call is lent to write to: the tables, working memory, room for a listing and for an answer
@@ -71,8 +68,8 @@ lent x w l a = record { tables = x; work = w; listing = l; answer = a }
 
 -- the least lengths of what is lent beside the tables
 pub record RoomLengths (work listing bytes answer : ℕ) : Type 0 where
-  pub marks : 4 * entry-rows ≤ work
-  pub numbers : 4 + 3 * entry-rows + 2 * 1024 ≤ listing
+  pub marks : work-long ≤ work
+  pub numbers : longest-listing ≤ listing
   pub asked : 8 ≤ bytes
   pub answered : 8 ≤ answer
 
@@ -82,13 +79,13 @@ Long x bytes = Sized (x .tables) × RoomLengths (length (x .work)) (length (x .l
 
 -- the premise of the record calls: where every length is right, the tables came from opening and these calls
 abbrev pub OpenedIfLong : Lent → List ℕ → Type 0
-OpenedIfLong x bytes = Long x bytes → Opened 1024 (state-of (x .tables))
+OpenedIfLong x bytes = Long x bytes → Opened most-nodes (state-of (x .tables))
 
 -- 0: the record in the first eight bytes is put, and its answer is written in the first eight. 1: a length is wrong, and all that was
 -- lent is as it was
 pub data RecordedBy (was : Lent) (bytes : List ℕ) : ℕ → Lent → Type 0 where
   done : {is : Lent} → Long was bytes → Sized (is .tables) →
-      ((o : Opened 1024 (state-of (was .tables))) →
+      ((o : Opened most-nodes (state-of (was .tables))) →
       Recorded (state-of (was .tables)) o bytes 0 (was .listing) (was .answer) 0 (state-of (is .tables)) (is .listing) (is .answer)) →
       RecordedBy was bytes 0 is
   wrong-length : (Long was bytes → ⊥) → RecordedBy was bytes 1 was

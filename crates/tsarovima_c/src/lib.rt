@@ -9,7 +9,7 @@ use formats::header::EIGHT;
 use jobs::run;
 use types::limits::ENTRIES;
 use types::limits::LISTING;
-use types::limits::NODES;
+use types::limits::NODE_ROWS;
 use types::limits::ROWS;
 use types::limits::TRAIL;
 use types::limits::WORK;
@@ -69,7 +69,7 @@ fn wrong_tables(
     if trail != TRAIL {
         return true;
     }
-    if nodes != NODES {
+    if nodes != NODE_ROWS {
         return true;
     }
     if live != LIVE {
@@ -129,7 +129,7 @@ pub extern "C" fn tsarovima_open(
     clear(rows);
     clear(trail);
     clear(nodes);
-    let opened = state::open(parent, rank, rows);
+    let opened = state::open(parent, rows);
     live[0] = opened.entries;
     live[1] = opened.links;
     live[2] = opened.kept;

@@ -4,18 +4,12 @@ use mathlib.Core.List.{List}
 use Prim.Native.Nat.{ℕ, _*_}
 use native.Mathlib.Omega.{arith}
 use lib.ListN.{length, replicate, length-set}
+use Rattle.classes.specs.Columns.{width}
 use Rattle.tsarovima_c.specs.Lent.{Tables, tables, Sized, OpenedBy}
 use Rattle.tsarovima_c.proofs.Lending.{opened-by}
 use borrow.Author.Needs.{needs}
 use Rattle.tsarovima_c.proofs.tsarovima_open.Statement.{statement}
 use Rattle.tsarovima_c.proofs.tsarovima_open.Tie as tie
-
--- the places on the way: every length is right; the tables are cleared; they are opened
-abbrev right : tie.After-open-arg3 → tie.Else1
-right c = c .before .before .before .before .before .before .before .before .before .before .before .before .before .before .before .before .before .before .before .before .before .before .before
-
-abbrev cleared : tie.After-slice-known14 → tie.After-open-arg3
-cleared c = c .before .before .before .before .before .before .before
 
 -- what was lent
 abbrev was : tie.Else1 → Tables
@@ -52,25 +46,24 @@ clear-requires-5 : tie.Need-clear-requires-5
 clear-requires-5 c κs = search needs
 
 open-requires : tie.Need-open-requires
-open-requires c κs =
-    let s = sized (right c) in
-    let x = was (right c) in (
+open-requires c κs = 
+    let s = sized (c .before .before .before .before .before .before .before .before .before .before .before .before .before .before .before .before .before .before .before .before .before .before) in
+    let x = was (c .before .before .before .before .before .before .before .before .before .before .before .before .before .before .before .before .before .before .before .before .before .before) in (
       length (x .parent),
       omega (arith, s .parents),
       omega (arith, s .parents),
-      c .before .before .before .before .before .before .before .before .before .before .before .before .before .before .before .before .before .before .before .before .before .clear .ensures,
-      same {n = length (x .rank)} {m = length (x .parent)} (c .before .before .before .before .before .before .before .before .before .before .before .before .before .before .before .before .before .clear2 .ensures) (omega (arith, s .parents, s .ranks)),
-      same {n = length (x .rows)} {m = 4 * length (x .parent)} (c .before .before .before .before .before .before .before .before .before .before .before .before .before .clear3 .ensures) (omega (arith, s .parents, s .four-an-entry)),
+      c .before .before .before .before .before .before .before .before .before .before .before .before .before .before .before .before .before .before .before .before .clear .ensures,
+      same {n = length (x .rows)} {m = width * length (x .parent)} (c .before .before .before .before .before .before .before .before .before .before .before .before .clear3 .ensures) (omega (arith, s .parents, s .four-an-entry)),
     )
 
 slice-write-live : tie.Need-slice-write-live
-slice-write-live c = omega (arith, sized (right (cleared c)) .counts)
+slice-write-live c = omega (arith, sized (c .before .before .before .before .before .before .before .before .before .before .before .before .before .before .before .before .before .before .before .before .before .before .before .before .before .before .before) .counts)
 
 slice-write-live-2 : tie.Need-slice-write-live-2
-slice-write-live-2 c = simp length-set (omega (arith, sized (right (cleared c)) .counts))
+slice-write-live-2 c = simp length-set (omega (arith, sized (c .before .before .before .before .before .before .before .before .before .before .before .before .before .before .before .before .before .before .before .before .before .before .before .before .before .before .before) .counts))
 
 slice-write-live-3 : tie.Need-slice-write-live-3
-slice-write-live-3 c = simp length-set (omega (arith, sized (right (cleared c)) .counts))
+slice-write-live-3 c = simp length-set (omega (arith, sized (c .before .before .before .before .before .before .before .before .before .before .before .before .before .before .before .before .before .before .before .before .before .before .before .before .before .before .before) .counts))
 
 same-length : tie.Need-same-length
 same-length c = search needs
@@ -91,10 +84,10 @@ same-length-6 : tie.Need-same-length-6
 same-length-6 c = search needs
 
 returns-2 : tie.Need-returns-2
-returns-2 c =
-    let opens = c .before .before .before .before .before .before .open in
-    let s = sized (right (cleared c)) in
-    opened-by s (cleared c .before .before .before .before .before .before .before .before .before .before .before .before .before .before .before .before .before .before .before .before .before .clear .ensures) (opens .ensures .0) (opens .ensures .1) (cleared c .before .before .before .before .before .before .before .before .before .clear4 .ensures) (cleared c .before .before .before .before .before .clear5 .ensures)
+returns-2 c = 
+    let opens = c .before .before .before .before .«open» in
+    let s = sized (c .before .before .before .before .before .before .before .before .before .before .before .before .before .before .before .before .before .before .before .before .before .before .before .before .before .before .before) in
+    opened-by s (c .before .before .before .before .before .before .before .before .before .before .before .before .before .before .before .before .before .before .before .before .before .before .before .before .before .clear .ensures) (opens .ensures .0) (opens .ensures .1) (c .before .before .before .before .before .before .before .before .before .before .before .before .before .before .before .before .before .before .before .before .before .clear2 .ensures) (c .before .before .before .before .before .before .before .before .before .before .before .before .before .clear4 .ensures) (c .before .before .before .before .before .before .before .before .before .clear5 .ensures)
     (record {
       parents = same-length c ∙ s .parents;
       ranks = same-length-2 c ∙ s .ranks;
