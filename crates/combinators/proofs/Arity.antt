@@ -7,7 +7,8 @@ use lib.ListN.{length}
 use types.Run.{OneOf, miss}
 use denote.Enum.Declared.{tagOf}
 use Rattle.nodes.proofs.Kind.{the-type}
-use Rattle.nodes.specs.Layout.{adds, children}
+use Rattle.nodes.specs.Layout.{adds, children, Proper}
+use Rattle.combinators.specs.Entering.{leaf, unary, binary}
 use Rattle.nodes.specs.Coded.{named}
 use Rattle.nodes.specs.declared.Node.the-variants.{Disconnect as DisconnectNode, DisconnectHole as HoleNode, Witness as WitnessNode}
 use Rattle.nodes.specs.declared.arrow.Arrow.{Arrow}
@@ -76,6 +77,79 @@ unary-children DisconnectHole a b h = refl
 unary-children Witness a b h = absurd (miss unaries 13 Prim.tt h)
 unary-children Fail a b h = absurd (miss unaries 14 Prim.tt h)
 unary-children Word a b h = absurd (miss unaries 15 Prim.tt h)
+
+-- what such a node adds does not depend on what it does not have
+pub leaf-row : (k : Kind) (a b : ℕ) (s t : Arrow) (e : ℕ) → OneOf leaves (tagOf the-type k) → adds (named k a b) s t e ≡ leaf (named k a 0) e
+leaf-row Iden a b s t e h = refl
+leaf-row Unit a b s t e h = refl
+leaf-row InjL a b s t e h = absurd (miss leaves 2 Prim.tt h)
+leaf-row InjR a b s t e h = absurd (miss leaves 3 Prim.tt h)
+leaf-row Take a b s t e h = absurd (miss leaves 4 Prim.tt h)
+leaf-row Drop a b s t e h = absurd (miss leaves 5 Prim.tt h)
+leaf-row Comp a b s t e h = absurd (miss leaves 6 Prim.tt h)
+leaf-row Case a b s t e h = absurd (miss leaves 7 Prim.tt h)
+leaf-row AssertL a b s t e h = absurd (miss leaves 8 Prim.tt h)
+leaf-row AssertR a b s t e h = absurd (miss leaves 9 Prim.tt h)
+leaf-row Pair a b s t e h = absurd (miss leaves 10 Prim.tt h)
+leaf-row Disconnect a b s t e h = absurd (miss leaves 11 Prim.tt h)
+leaf-row DisconnectHole a b s t e h = absurd (miss leaves 12 Prim.tt h)
+leaf-row Witness a b s t e h = refl
+leaf-row Fail a b s t e h = refl
+leaf-row Word a b s t e h = refl
+
+pub unary-row : (k : Kind) (a b : ℕ) (s t : Arrow) (e : ℕ) → OneOf unaries (tagOf the-type k) → adds (named k a b) s t e ≡ unary (λ i. named k i 0) s e
+unary-row Iden a b s t e h = absurd (miss unaries 0 Prim.tt h)
+unary-row Unit a b s t e h = absurd (miss unaries 1 Prim.tt h)
+unary-row InjL a b s t e h = refl
+unary-row InjR a b s t e h = refl
+unary-row Take a b s t e h = refl
+unary-row Drop a b s t e h = refl
+unary-row Comp a b s t e h = absurd (miss unaries 6 Prim.tt h)
+unary-row Case a b s t e h = absurd (miss unaries 7 Prim.tt h)
+unary-row AssertL a b s t e h = refl
+unary-row AssertR a b s t e h = refl
+unary-row Pair a b s t e h = absurd (miss unaries 10 Prim.tt h)
+unary-row Disconnect a b s t e h = absurd (miss unaries 11 Prim.tt h)
+unary-row DisconnectHole a b s t e h = refl
+unary-row Witness a b s t e h = absurd (miss unaries 13 Prim.tt h)
+unary-row Fail a b s t e h = absurd (miss unaries 14 Prim.tt h)
+unary-row Word a b s t e h = absurd (miss unaries 15 Prim.tt h)
+
+pub binary-row : (k : Kind) (a b : ℕ) (s t : Arrow) (e : ℕ) → OneOf binaries (tagOf the-type k) → adds (named k a b) s t e ≡ binary (named k) s t e
+binary-row Iden a b s t e h = absurd (miss binaries 0 Prim.tt h)
+binary-row Unit a b s t e h = absurd (miss binaries 1 Prim.tt h)
+binary-row InjL a b s t e h = absurd (miss binaries 2 Prim.tt h)
+binary-row InjR a b s t e h = absurd (miss binaries 3 Prim.tt h)
+binary-row Take a b s t e h = absurd (miss binaries 4 Prim.tt h)
+binary-row Drop a b s t e h = absurd (miss binaries 5 Prim.tt h)
+binary-row Comp a b s t e h = refl
+binary-row Case a b s t e h = refl
+binary-row AssertL a b s t e h = absurd (miss binaries 8 Prim.tt h)
+binary-row AssertR a b s t e h = absurd (miss binaries 9 Prim.tt h)
+binary-row Pair a b s t e h = refl
+binary-row Disconnect a b s t e h = refl
+binary-row DisconnectHole a b s t e h = absurd (miss binaries 12 Prim.tt h)
+binary-row Witness a b s t e h = absurd (miss binaries 13 Prim.tt h)
+binary-row Fail a b s t e h = absurd (miss binaries 14 Prim.tt h)
+binary-row Word a b s t e h = absurd (miss binaries 15 Prim.tt h)
+
+pub leaf-proper : (k : Kind) (a b : ℕ) → OneOf leaves (tagOf the-type k) → Proper (named k a b) → Proper (named k a 0)
+leaf-proper Iden a b h p = p
+leaf-proper Unit a b h p = p
+leaf-proper InjL a b h p = absurd (miss leaves 2 Prim.tt h)
+leaf-proper InjR a b h p = absurd (miss leaves 3 Prim.tt h)
+leaf-proper Take a b h p = absurd (miss leaves 4 Prim.tt h)
+leaf-proper Drop a b h p = absurd (miss leaves 5 Prim.tt h)
+leaf-proper Comp a b h p = absurd (miss leaves 6 Prim.tt h)
+leaf-proper Case a b h p = absurd (miss leaves 7 Prim.tt h)
+leaf-proper AssertL a b h p = absurd (miss leaves 8 Prim.tt h)
+leaf-proper AssertR a b h p = absurd (miss leaves 9 Prim.tt h)
+leaf-proper Pair a b h p = absurd (miss leaves 10 Prim.tt h)
+leaf-proper Disconnect a b h p = absurd (miss leaves 11 Prim.tt h)
+leaf-proper DisconnectHole a b h p = absurd (miss leaves 12 Prim.tt h)
+leaf-proper Witness a b h p = p
+leaf-proper Fail a b h p = p
+leaf-proper Word a b h p = p
 
 -- of the kinds without a child, those that the first arms of the `match` leave are witness and fail, whose row is one
 abbrev past-word : List ℕ

@@ -10,13 +10,12 @@ use nodes::arrow::Adds;
 use nodes::arrow::Arrow;
 use nodes::arrow::Rule;
 ghost use mathlib.Core.Path.{_≡_};
-ghost use mathlib.Core.List.{[]};
 ghost use Prim.Native.Nat.{_<_};
 ghost use lib.ListN.{length, getD};
 ghost use Rattle.nodes.specs.Layout.{says, Proper, children};
-ghost use Rattle.nodes.specs.Coded.{node-of};
+ghost use Rattle.nodes.specs.Coded.{node-of, named};
 ghost use Rattle.nodes.specs.Meant.{Countable, meant, meant-rule};
-ghost use Rattle.combinators.specs.Entering.{part, Ready, Enters};
+ghost use Rattle.combinators.specs.Entering.{part, Ready, Enters, leaf, unary, binary};
 
 // What a node's entries leave: how many entries there are then, the node's arrow, how many rules are still to be joined, and the
 // first of them.
@@ -37,50 +36,60 @@ pub fn enter(parent: &mut [u16], rows: &mut [u16], links: u16, row: Adds) -> Ent
 {
     let node = row.node;
     let kind = node.kind;
+    let s = row.s;
+    let t = row.t;
+    let e = row.e;
     match kind {
         Kind::Iden | Kind::Unit | Kind::Witness | Kind::Fail | Kind::Word => {
-            enter_leaf(parent, rows, links, row)
+            enter_leaf(parent, rows, links, kind, node.a, e)
         }
         Kind::Comp | Kind::Case | Kind::Pair | Kind::Disconnect => {
-            enter_binary(parent, rows, links, row)
+            enter_binary(parent, rows, links, kind, s, t, e)
         }
-        _ => enter_unary(parent, rows, links, row),
+        _ => enter_unary(parent, rows, links, kind, s, e),
     }
 }
 
 // A node with no child.
-fn enter_leaf(parent: &mut [u16], rows: &mut [u16], links: u16, row: Adds) -> Entered
-    requires { ⌜ Ready (part (now parent) (now rows) (row .e) links) (row .e) (meant row) × Proper (node-of (row .node)) ⌝ }
-    requires { ⌜ length (children (node-of (row .node))) ≡ 0 ⌝ }
+fn enter_leaf(
+    parent: &mut [u16],
+    rows: &mut [u16],
+    links: u16,
+    kind: Kind,
+    n: u16,
+    e: u16,
+) -> Entered
+    requires { ⌜ Ready (part (now parent) (now rows) e links) e (leaf (named kind n 0) e) × Proper (named kind n 0) ⌝ }
+    requires { ⌜ length (children (named kind n 0)) ≡ 0 ⌝ }
     ensures { λ r. ⌜ (
-        let was = part (now (parent .entry)) (now (rows .entry)) (row .e) links in
+        let was = part (now (parent .entry)) (now (rows .entry)) e links in
         let is = part (now (parent .exit)) (now (rows .exit)) (r .entries) links in
-        Enters was (meant row) r is) ⌝ }
+        Enters was (leaf (named kind n 0) e) r is) ⌝ }
 {
-    let node = row.node;
-    let kind = node.kind;
-    let e = row.e;
     match kind {
         Kind::Iden => each::iden(parent, rows, links, e),
         Kind::Unit => each::unit(parent, rows, links, e),
-        Kind::Word => each::word(parent, rows, links, node.a, e),
+        Kind::Word => each::word(parent, rows, links, n, e),
         _ => each::witness(parent, rows, links, e),
     }
 }
 
 // A node with one child.
-fn enter_unary(parent: &mut [u16], rows: &mut [u16], links: u16, row: Adds) -> Entered
-    requires { ⌜ Ready (part (now parent) (now rows) (row .e) links) (row .e) (meant row) ⌝ }
-    requires { ⌜ length (children (node-of (row .node))) ≡ 1 ⌝ }
+fn enter_unary(
+    parent: &mut [u16],
+    rows: &mut [u16],
+    links: u16,
+    kind: Kind,
+    s: Arrow,
+    e: u16,
+) -> Entered
+    requires { ⌜ Ready (part (now parent) (now rows) e links) e (unary (λ i. named kind i 0) s e) ⌝ }
+    requires { ⌜ length (children (named kind 0 0)) ≡ 1 ⌝ }
     ensures { λ r. ⌜ (
-        let was = part (now (parent .entry)) (now (rows .entry)) (row .e) links in
+        let was = part (now (parent .entry)) (now (rows .entry)) e links in
         let is = part (now (parent .exit)) (now (rows .exit)) (r .entries) links in
-        Enters was (meant row) r is) ⌝ }
+        Enters was (unary (λ i. named kind i 0) s e) r is) ⌝ }
 {
-    let node = row.node;
-    let kind = node.kind;
-    let s = row.s;
-    let e = row.e;
     match kind {
         Kind::InjL => each::injl(parent, rows, links, s, e),
         Kind::InjR => each::injr(parent, rows, links, s, e),
@@ -93,19 +102,22 @@ fn enter_unary(parent: &mut [u16], rows: &mut [u16], links: u16, row: Adds) -> E
 }
 
 // A node with two children.
-fn enter_binary(parent: &mut [u16], rows: &mut [u16], links: u16, row: Adds) -> Entered
-    requires { ⌜ Ready (part (now parent) (now rows) (row .e) links) (row .e) (meant row) ⌝ }
-    requires { ⌜ length (children (node-of (row .node))) ≡ 2 ⌝ }
+fn enter_binary(
+    parent: &mut [u16],
+    rows: &mut [u16],
+    links: u16,
+    kind: Kind,
+    s: Arrow,
+    t: Arrow,
+    e: u16,
+) -> Entered
+    requires { ⌜ Ready (part (now parent) (now rows) e links) e (binary (named kind) s t e) ⌝ }
+    requires { ⌜ length (children (named kind 0 0)) ≡ 2 ⌝ }
     ensures { λ r. ⌜ (
-        let was = part (now (parent .entry)) (now (rows .entry)) (row .e) links in
+        let was = part (now (parent .entry)) (now (rows .entry)) e links in
         let is = part (now (parent .exit)) (now (rows .exit)) (r .entries) links in
-        Enters was (meant row) r is) ⌝ }
+        Enters was (binary (named kind) s t e) r is) ⌝ }
 {
-    let node = row.node;
-    let kind = node.kind;
-    let s = row.s;
-    let t = row.t;
-    let e = row.e;
     match kind {
         Kind::Comp => each::comp(parent, rows, links, s, t, e),
         Kind::Case => each::case(parent, rows, links, s, t, e),

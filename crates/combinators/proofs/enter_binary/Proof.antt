@@ -1,41 +1,40 @@
 -- `combinators::enter_binary` meets its contract: each arm is its combinator's row.
-use mathlib.Core.Path.{_≡_, sym, subst}
-use Rattle.nodes.specs.Layout.{Row}
-use Rattle.nodes.specs.Meant.{meant}
+use mathlib.Core.Path.{_≡_, subst}
+use Rattle.nodes.specs.Coded.{named}
 use Rattle.nodes.specs.declared.Node.the-variants.{Disconnect as DisconnectNode}
-use Rattle.combinators.specs.Entering.{Ready, Enters, binary}
+use Rattle.combinators.specs.Entering.{Ready, binary}
 use Rattle.combinators.proofs.Arity.{is-disconnect}
 use borrow.Author.Needs.{needs}
 use Rattle.combinators.proofs.enter_binary.Statement.{statement}
 use Rattle.combinators.proofs.enter_binary.Tie as tie
 
 -- the row of the last arm
-last-row : (c : tie.At-match-keys4) → let row = c .before .before .before .before .before .before .args .row in meant row ≡ binary DisconnectNode (row .s) (row .t) (row .e)
+last-row : (c : tie.At-match-keys4) → let a = c .before .before .before .args in binary (named (a .kind)) (a .s) (a .t) (a .e) ≡ binary DisconnectNode (a .s) (a .t) (a .e)
 last-row c =
-    let start = c .before .before .before .before .before .before in
-    let row = start .args .row in
-    is-disconnect (row .node .kind) (row .node .a) (row .node .b) (row .s) (row .t) (row .e) (c .match .keys4) (start .pre .1)
+    let start = c .before .before .before in
+    let a = start .args in
+    is-disconnect (a .kind) 0 0 (a .s) (a .t) (a .e) (c .match .keys4) (start .pre .1)
 
 enum-told : tie.Need-enum-told
 enum-told c = search needs
 
 comp-requires : tie.Need-comp-requires
-comp-requires c κs = rw (c .before .before .enum-told .given .1) at (c .before .before .before .before .before .before .before .before .before .pre .0)
+comp-requires c κs = rw (c .before .before .enum-told .given .1) at (c .before .before .before .before .before .before .pre .0)
 
 enum-told-2 : tie.Need-enum-told-2
 enum-told-2 c = search needs
 
 case-requires : tie.Need-case-requires
-case-requires c κs = rw (c .before .before .enum-told2 .given .1) at (c .before .before .before .before .before .before .before .before .before .pre .0)
+case-requires c κs = rw (c .before .before .enum-told2 .given .1) at (c .before .before .before .before .before .before .pre .0)
 
 enum-told-3 : tie.Need-enum-told-3
 enum-told-3 c = search needs
 
 pair-requires : tie.Need-pair-requires
-pair-requires c κs = rw (c .before .before .enum-told3 .given .1) at (c .before .before .before .before .before .before .before .before .before .pre .0)
+pair-requires c κs = rw (c .before .before .enum-told3 .given .1) at (c .before .before .before .before .before .before .pre .0)
 
 disconnect-requires : tie.Need-disconnect-requires
-disconnect-requires c κs = subst (Ready _ _) (last-row (c .before .before)) (c .before .before .before .before .before .before .before .before .pre .0)
+disconnect-requires c κs = subst (Ready _ _) (last-row (c .before .before)) (c .before .before .before .before .before .pre .0)
 
 same-length : tie.Need-same-length
 same-length c = search needs

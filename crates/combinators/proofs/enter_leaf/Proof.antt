@@ -1,41 +1,41 @@
 -- `combinators::enter_leaf` meets its contract: each arm is its combinator's row.
-use mathlib.Core.Path.{_≡_, sym, subst}
-use Rattle.nodes.specs.Layout.{Row}
-use Rattle.nodes.specs.Meant.{meant}
+use mathlib.Core.Path.{_≡_, subst}
+use Rattle.nodes.specs.Layout.{arrow}
+use Rattle.nodes.specs.Coded.{named}
 use Rattle.nodes.specs.declared.Node.the-variants.{Witness as WitnessNode}
-use Rattle.combinators.specs.Entering.{Ready, Enters, leaf}
+use Rattle.combinators.specs.Entering.{Ready, leaf}
 use Rattle.combinators.proofs.Arity.{is-witness}
 use borrow.Author.Needs.{needs}
 use Rattle.combinators.proofs.enter_leaf.Statement.{statement}
 use Rattle.combinators.proofs.enter_leaf.Tie as tie
 
 -- the row of the last arm
-last-row : (c : tie.At-match-keys4) → let row = c .before .before .before .before .args .row in meant row ≡ leaf WitnessNode (row .e)
+last-row : (c : tie.At-match-keys4) → let a = c .before .before .before .args in leaf (named (a .kind) (a .n) 0) (a .e) ≡ leaf WitnessNode (a .e)
 last-row c =
-    let start = c .before .before .before .before in
-    let row = start .args .row in
-    is-witness (row .node .kind) (row .node .a) (row .node .b) (row .s) (row .t) (row .e) (c .match .keys4) (start .pre .1)
+    let start = c .before .before .before in
+    let a = start .args in
+    is-witness (a .kind) (a .n) 0 (arrow 0 0) (arrow 0 0) (a .e) (c .match .keys4) (start .pre .1)
 
 enum-told : tie.Need-enum-told
 enum-told c = search needs
 
 iden-requires : tie.Need-iden-requires
-iden-requires c κs = rw (c .before .before .enum-told .given .1) at (c .before .before .before .before .before .before .before .pre .0 .0)
+iden-requires c κs = rw (c .before .before .enum-told .given .1) at (c .before .before .before .before .before .before .pre .0 .0)
 
 enum-told-2 : tie.Need-enum-told-2
 enum-told-2 c = search needs
 
 unit-requires : tie.Need-unit-requires
-unit-requires c κs = rw (c .before .before .enum-told2 .given .1) at (c .before .before .before .before .before .before .before .pre .0 .0)
+unit-requires c κs = rw (c .before .before .enum-told2 .given .1) at (c .before .before .before .before .before .before .pre .0 .0)
 
 enum-told-3 : tie.Need-enum-told-3
 enum-told-3 c = search needs
 
 word-requires : tie.Need-word-requires
-word-requires c κs = rw (c .before .before .enum-told3 .given .1) at (c .before .before .before .before .before .before .before .pre .0 .1)
+word-requires c κs = rw (c .before .before .enum-told3 .given .1) at (c .before .before .before .before .before .before .pre .0 .1)
 
 witness-requires : tie.Need-witness-requires
-witness-requires c κs = subst (Ready _ _) (last-row (c .before .before)) (c .before .before .before .before .before .before .pre .0 .0)
+witness-requires c κs = subst (Ready _ _) (last-row (c .before .before)) (c .before .before .before .before .before .pre .0 .0)
 
 same-length : tie.Need-same-length
 same-length c = search needs

@@ -1,59 +1,59 @@
 -- `combinators::enter_unary` meets its contract: each arm is its combinator's row.
-use mathlib.Core.Path.{_≡_, sym, subst}
-use Rattle.nodes.specs.Layout.{Row}
-use Rattle.nodes.specs.Meant.{meant}
+use mathlib.Core.Path.{_≡_, subst}
+use Rattle.nodes.specs.Layout.{arrow}
+use Rattle.nodes.specs.Coded.{named}
 use Rattle.nodes.specs.declared.Node.the-variants.{DisconnectHole as HoleNode}
-use Rattle.combinators.specs.Entering.{Ready, Enters, unary}
+use Rattle.combinators.specs.Entering.{Ready, unary}
 use Rattle.combinators.proofs.Arity.{is-hole}
 use borrow.Author.Needs.{needs}
 use Rattle.combinators.proofs.enter_unary.Statement.{statement}
 use Rattle.combinators.proofs.enter_unary.Tie as tie
 
 -- the row of the last arm
-last-row : (c : tie.At-match-keys7) → let row = c .before .before .before .before .before .args .row in meant row ≡ unary HoleNode (row .s) (row .e)
+last-row : (c : tie.At-match-keys7) → let a = c .before .before .before .args in unary (λ i. named (a .kind) i 0) (a .s) (a .e) ≡ unary HoleNode (a .s) (a .e)
 last-row c =
-    let start = c .before .before .before .before .before in
-    let row = start .args .row in
-    is-hole (row .node .kind) (row .node .a) (row .node .b) (row .s) (row .t) (row .e) (c .match .keys7) (start .pre .1)
+    let start = c .before .before .before in
+    let a = start .args in
+    is-hole (a .kind) 0 0 (a .s) (arrow 0 0) (a .e) (c .match .keys7) (start .pre .1)
 
 enum-told : tie.Need-enum-told
 enum-told c = search needs
 
 injl-requires : tie.Need-injl-requires
-injl-requires c κs = rw (c .before .before .enum-told .given .1) at (c .before .before .before .before .before .before .before .before .pre .0)
+injl-requires c κs = rw (c .before .before .enum-told .given .1) at (c .before .before .before .before .before .before .pre .0)
 
 enum-told-2 : tie.Need-enum-told-2
 enum-told-2 c = search needs
 
 injr-requires : tie.Need-injr-requires
-injr-requires c κs = rw (c .before .before .enum-told2 .given .1) at (c .before .before .before .before .before .before .before .before .pre .0)
+injr-requires c κs = rw (c .before .before .enum-told2 .given .1) at (c .before .before .before .before .before .before .pre .0)
 
 enum-told-3 : tie.Need-enum-told-3
 enum-told-3 c = search needs
 
 take-requires : tie.Need-take-requires
-take-requires c κs = rw (c .before .before .enum-told3 .given .1) at (c .before .before .before .before .before .before .before .before .pre .0)
+take-requires c κs = rw (c .before .before .enum-told3 .given .1) at (c .before .before .before .before .before .before .pre .0)
 
 enum-told-4 : tie.Need-enum-told-4
 enum-told-4 c = search needs
 
 drop-requires : tie.Need-drop-requires
-drop-requires c κs = rw (c .before .before .enum-told4 .given .1) at (c .before .before .before .before .before .before .before .before .pre .0)
+drop-requires c κs = rw (c .before .before .enum-told4 .given .1) at (c .before .before .before .before .before .before .pre .0)
 
 enum-told-5 : tie.Need-enum-told-5
 enum-told-5 c = search needs
 
 assertl-requires : tie.Need-assertl-requires
-assertl-requires c κs = rw (c .before .before .enum-told5 .given .1) at (c .before .before .before .before .before .before .before .before .pre .0)
+assertl-requires c κs = rw (c .before .before .enum-told5 .given .1) at (c .before .before .before .before .before .before .pre .0)
 
 enum-told-6 : tie.Need-enum-told-6
 enum-told-6 c = search needs
 
 assertr-requires : tie.Need-assertr-requires
-assertr-requires c κs = rw (c .before .before .enum-told6 .given .1) at (c .before .before .before .before .before .before .before .before .pre .0)
+assertr-requires c κs = rw (c .before .before .enum-told6 .given .1) at (c .before .before .before .before .before .before .pre .0)
 
 disconnect-hole-requires : tie.Need-disconnect-hole-requires
-disconnect-hole-requires c κs = subst (Ready _ _) (last-row (c .before .before)) (c .before .before .before .before .before .before .before .pre .0)
+disconnect-hole-requires c κs = subst (Ready _ _) (last-row (c .before .before)) (c .before .before .before .before .before .pre .0)
 
 same-length : tie.Need-same-length
 same-length c = search needs
