@@ -223,14 +223,7 @@ pub fn close(s: State) -> Listed
     let live = s.live;
     let mut work = [0u16; WORK];
     let mut listing = [0u16; LISTING];
-    let answer = state::close(
-        &parent,
-        &rows,
-        &nodes,
-        &mut work,
-        &mut listing,
-        live,
-    );
+    let answer = state::close(&parent, &rows, &nodes, &mut work, &mut listing, live);
     if let Answer::Endless(_) = answer {
         let mut none = [0u16; LISTING];
         no_listing(&mut none);

@@ -149,13 +149,7 @@ pub(super) fn unit(parent: &mut [u16], rows: &mut [u16], links: u16, e: u16) -> 
 }
 
 // A → B + C, where s : A → B.
-pub(super) fn injl(
-    parent: &mut [u16],
-    rows: &mut [u16],
-    links: u16,
-    s: Arrow,
-    e: u16,
-) -> Entered
+pub(super) fn injl(parent: &mut [u16], rows: &mut [u16], links: u16, s: Arrow, e: u16) -> Entered
     requires { ⌜ Ready (part (now parent) (now rows) e links) e (unary InjL s e) ⌝ }
     ensures { λ r. ⌜ (
         let was = part (now (parent .entry)) (now (rows .entry)) e links in
@@ -163,26 +157,11 @@ pub(super) fn injl(
         Enters was (unary InjL s e) r is) ⌝ }
 {
     let b = Bound::Sum(s.target, e);
-    enter_two(
-        parent,
-        rows,
-        links,
-        e,
-        Bound::Free,
-        b,
-        s.source,
-        e + 1,
-    )
+    enter_two(parent, rows, links, e, Bound::Free, b, s.source, e + 1)
 }
 
 // A → B + C, where s : A → C.
-pub(super) fn injr(
-    parent: &mut [u16],
-    rows: &mut [u16],
-    links: u16,
-    s: Arrow,
-    e: u16,
-) -> Entered
+pub(super) fn injr(parent: &mut [u16], rows: &mut [u16], links: u16, s: Arrow, e: u16) -> Entered
     requires { ⌜ Ready (part (now parent) (now rows) e links) e (unary InjR s e) ⌝ }
     ensures { λ r. ⌜ (
         let was = part (now (parent .entry)) (now (rows .entry)) e links in
@@ -190,26 +169,11 @@ pub(super) fn injr(
         Enters was (unary InjR s e) r is) ⌝ }
 {
     let b = Bound::Sum(e, s.target);
-    enter_two(
-        parent,
-        rows,
-        links,
-        e,
-        Bound::Free,
-        b,
-        s.source,
-        e + 1,
-    )
+    enter_two(parent, rows, links, e, Bound::Free, b, s.source, e + 1)
 }
 
 // A × B → C, where s : A → C.
-pub(super) fn take(
-    parent: &mut [u16],
-    rows: &mut [u16],
-    links: u16,
-    s: Arrow,
-    e: u16,
-) -> Entered
+pub(super) fn take(parent: &mut [u16], rows: &mut [u16], links: u16, s: Arrow, e: u16) -> Entered
     requires { ⌜ Ready (part (now parent) (now rows) e links) e (unary Take s e) ⌝ }
     ensures { λ r. ⌜ (
         let was = part (now (parent .entry)) (now (rows .entry)) e links in
@@ -217,26 +181,11 @@ pub(super) fn take(
         Enters was (unary Take s e) r is) ⌝ }
 {
     let b = Bound::Product(s.source, e);
-    enter_two(
-        parent,
-        rows,
-        links,
-        e,
-        Bound::Free,
-        b,
-        e + 1,
-        s.target,
-    )
+    enter_two(parent, rows, links, e, Bound::Free, b, e + 1, s.target)
 }
 
 // A × B → C, where s : B → C.
-pub(super) fn drop(
-    parent: &mut [u16],
-    rows: &mut [u16],
-    links: u16,
-    s: Arrow,
-    e: u16,
-) -> Entered
+pub(super) fn drop(parent: &mut [u16], rows: &mut [u16], links: u16, s: Arrow, e: u16) -> Entered
     requires { ⌜ Ready (part (now parent) (now rows) e links) e (unary Drop s e) ⌝ }
     ensures { λ r. ⌜ (
         let was = part (now (parent .entry)) (now (rows .entry)) e links in
@@ -244,27 +193,11 @@ pub(super) fn drop(
         Enters was (unary Drop s e) r is) ⌝ }
 {
     let b = Bound::Product(e, s.source);
-    enter_two(
-        parent,
-        rows,
-        links,
-        e,
-        Bound::Free,
-        b,
-        e + 1,
-        s.target,
-    )
+    enter_two(parent, rows, links, e, Bound::Free, b, e + 1, s.target)
 }
 
 // A → C, where s : A → B and t : B → C. It adds no entry.
-pub(super) fn comp(
-    parent: &[u16],
-    rows: &[u16],
-    links: u16,
-    s: Arrow,
-    t: Arrow,
-    e: u16,
-) -> Entered
+pub(super) fn comp(parent: &[u16], rows: &[u16], links: u16, s: Arrow, t: Arrow, e: u16) -> Entered
     requires { ⌜ Ready (part (now parent) (now rows) e links) e (binary Comp s t e) ⌝ }
     ensures { λ r. ⌜ (
         let was = part (now (parent .entry)) (now (rows .entry)) e links in
@@ -335,13 +268,7 @@ pub(super) fn case_rule(s: Arrow, t: Arrow, e: u16, i: u16) -> Rule
 }
 
 // A case whose second child is hidden.
-pub(super) fn assertl(
-    parent: &mut [u16],
-    rows: &mut [u16],
-    links: u16,
-    s: Arrow,
-    e: u16,
-) -> Entered
+pub(super) fn assertl(parent: &mut [u16], rows: &mut [u16], links: u16, s: Arrow, e: u16) -> Entered
     requires { ⌜ Ready (part (now parent) (now rows) e links) e (unary AssertL s e) ⌝ }
     ensures { λ r. ⌜ (
         let was = part (now (parent .entry)) (now (rows .entry)) e links in
@@ -376,13 +303,7 @@ pub(super) fn assertl_rule(s: Arrow, e: u16, i: u16) -> Rule
 }
 
 // A case whose first child is hidden.
-pub(super) fn assertr(
-    parent: &mut [u16],
-    rows: &mut [u16],
-    links: u16,
-    s: Arrow,
-    e: u16,
-) -> Entered
+pub(super) fn assertr(parent: &mut [u16], rows: &mut [u16], links: u16, s: Arrow, e: u16) -> Entered
     requires { ⌜ Ready (part (now parent) (now rows) e links) e (unary AssertR s e) ⌝ }
     ensures { λ r. ⌜ (
         let was = part (now (parent .entry)) (now (rows .entry)) e links in
@@ -530,28 +451,14 @@ pub(super) fn disconnect_hole(
 }
 
 // A → B. A fail is the same.
-pub(super) fn witness(
-    parent: &mut [u16],
-    rows: &mut [u16],
-    links: u16,
-    e: u16,
-) -> Entered
+pub(super) fn witness(parent: &mut [u16], rows: &mut [u16], links: u16, e: u16) -> Entered
     requires { ⌜ Ready (part (now parent) (now rows) e links) e (leaf Witness e) ⌝ }
     ensures { λ r. ⌜ (
         let was = part (now (parent .entry)) (now (rows .entry)) e links in
         let is = part (now (parent .exit)) (now (rows .exit)) (r .entries) links in
         Enters was (leaf Witness e) r is) ⌝ }
 {
-    enter_two(
-        parent,
-        rows,
-        links,
-        e,
-        Bound::Free,
-        Bound::Free,
-        e,
-        e + 1,
-    )
+    enter_two(parent, rows, links, e, Bound::Free, Bound::Free, e, e + 1)
 }
 
 // 1 → 2^(2^n). It adds no entry.

@@ -57,13 +57,7 @@ fn both_there(entries: u16, a: u16, b: u16) -> bool
 }
 
 // Adds an entry if its parts are there and the table has room, and says what the live counts are then.
-fn enter(
-    parent: &mut [u16],
-    rank: &mut [u16],
-    rows: &mut [u16],
-    live: Mark,
-    b: Bound,
-) -> Mark
+fn enter(parent: &mut [u16], rank: &mut [u16], rows: &mut [u16], live: Mark, b: Bound) -> Mark
     requires { ⌜ ((trail : List ℕ) × Made (laid (now parent) (now rank) (now rows) trail (live .entries) (live .links))) ⌝ }
     ensures { λ r. ⌜ ((trail : List ℕ) → Made (laid (now (parent .entry)) (now (rank .entry)) (now (rows .entry)) trail (live .entries) (live .links)) → Leads
         (laid (now (parent .entry)) (now (rank .entry)) (now (rows .entry)) trail (live .entries) (live .links))
@@ -104,16 +98,7 @@ fn join_or_undo(
             verdict: Verdict::Missing,
         };
     }
-    match context::join(
-        parent,
-        rank,
-        rows,
-        trail,
-        pending,
-        live,
-        a,
-        b,
-    ) {
+    match context::join(parent, rank, rows, trail, pending, live, a, b) {
         context::Joined::Done(n) => After {
             live: Mark {
                 entries: live.entries,
@@ -158,16 +143,7 @@ fn grow(
     while made < many {
         let new = then.entries;
         then = enter(parent, rank, rows, then, Bound::Free);
-        let after = join_or_undo(
-            parent,
-            rank,
-            rows,
-            trail,
-            pending,
-            then,
-            new,
-            other,
-        );
+        let after = join_or_undo(parent, rank, rows, trail, pending, then, new, other);
         then = after.live;
         if !star {
             other = new;
@@ -178,12 +154,7 @@ fn grow(
 }
 
 // Prints what an entry's class shows, and its root.
-fn show(
-    parent: &[u16],
-    rows: &[u16],
-    live: Mark,
-    a: u16,
-)
+fn show(parent: &[u16], rows: &[u16], live: Mark, a: u16)
     requires { ⌜ ((rank : List ℕ) × ((trail : List ℕ) × Made (laid (now parent) rank (now rows) trail (live .entries) (live .links)))) ⌝ }
 {
     if live.entries <= a {
@@ -288,16 +259,7 @@ fn step(
             }
         }
         Order::Join(a, b) => {
-            let after = join_or_undo(
-                parent,
-                rank,
-                rows,
-                trail,
-                pending,
-                live,
-                a,
-                b,
-            );
+            let after = join_or_undo(parent, rank, rows, trail, pending, live, a, b);
             let then = after.live;
             let verdict = after.verdict;
             say::joined(a, b, verdict, then);
@@ -317,16 +279,7 @@ fn step(
                 taken: more,
             }
         }
-        Order::Back(n) => back_to(
-            parent,
-            rank,
-            rows,
-            trail,
-            marks,
-            live,
-            taken,
-            n,
-        ),
+        Order::Back(n) => back_to(parent, rank, rows, trail, marks, live, taken, n),
         Order::Grow(form, many) => {
             let then = grow(
                 parent,

@@ -60,7 +60,7 @@ opened-by {p₀} {r₀} {q₀} {t₀} {n₀} {v₀} {p₁} {p} {r} {q} {t} {n} {
     let rows = sized .parents in
     let long : length p₁ ≡ length p₀ = ap length clear ∙ length-replicate (length p₀) 0 in
     let (o, nothing) = fresh-opened (length p₁) (length r₀) (length t₀) (length n₀) q (omega (arith, long, rows)) (omega (arith, long, rows))
-        (omega (arith, long, rows, sized .ranks)) (omega (arith, long, rows, sized .three-a-link)) (sized .seven-a-node) none is er et en in
+    (omega (arith, long, rows, sized .ranks)) (omega (arith, long, rows, sized .three-a-link)) (sized .seven-a-node) none is er et en in
     let stored = three v₀ e j kept (sized .counts) in
     subst (λ (v : List ℕ). OpenedBy (tables p₀ r₀ q₀ t₀ n₀ v₀) 0 (tables p r q t n v)) (sym stored)
     (OpenedBy.done sized (subst (λ (v : List ℕ). Sized (tables p r q t n v)) stored then) o nothing)

@@ -233,16 +233,7 @@ fn meet(
     let mut r = first;
     loop {
         let now = Mark { entries, links };
-        let joined = context::join(
-            parent,
-            rank,
-            rows,
-            trail,
-            pending,
-            now,
-            r.one,
-            r.other,
-        );
+        let joined = context::join(parent, rank, rows, trail, pending, now, r.one, r.other);
         let made = links_made(joined);
         let Joined::Done(_) = joined else {
             return Met::Clash(r.number, links + made);
@@ -380,14 +371,7 @@ pub fn take_back(
         entries: live.entries,
         links: live.links,
     };
-    undo::undo(
-        parent,
-        rank,
-        rows,
-        trail,
-        now,
-        Mark { entries, links },
-    );
+    undo::undo(parent, rank, rows, trail, now, Mark { entries, links });
     clear_rows(nodes, to, kept);
     Step {
         answer: Answer::TakenBack(to),
@@ -414,15 +398,7 @@ pub fn close(
         Closes most (o .nodes) (now (listed .entry)) r (now (listed .exit))) ⌝ }
 {
     let kept = live.kept;
-    match listing::close(
-        parent,
-        rows,
-        nodes,
-        work,
-        listed,
-        live.entries,
-        kept,
-    ) {
+    match listing::close(parent, rows, nodes, work, listed, live.entries, kept) {
         Closing::Types(types) => Answer::Closed(kept, types),
         Closing::Endless(i) => Answer::Endless(i),
     }

@@ -7,19 +7,19 @@ use Rattle.combinators.proofs.enter.Statement.{statement}
 use Rattle.combinators.proofs.enter.Tie as tie
 
 enter-leaf-requires : tie.Need-enter-leaf-requires
-enter-leaf-requires c κs = 
+enter-leaf-requires c κs =
     let row = c .before .before .before .before .before .before .before .before .args .row in
     let pre = c .before .before .before .before .before .before .before .before .pre in
     let keys = c .before .before .match .keys1 in
     ((subst (Ready _ _) (leaf-row (row .node .kind) (row .node .a) (row .node .b) (row .s) (row .t) (row .e) (c .before .before .match .keys1)) (pre .0), leaf-proper (row .node .kind) (row .node .a) (row .node .b) keys (pre .1)), leaf-children (row .node .kind) (row .node .a) 0 (c .before .before .match .keys1))
 
 enter-binary-requires : tie.Need-enter-binary-requires
-enter-binary-requires c κs = 
+enter-binary-requires c κs =
     let row = c .before .before .before .before .before .before .before .before .args .row in
     (subst (Ready _ _) (binary-row (row .node .kind) (row .node .a) (row .node .b) (row .s) (row .t) (row .e) (c .before .before .match .keys2)) (c .before .before .before .before .before .before .before .before .pre .0), binary-children (row .node .kind) 0 0 (c .before .before .match .keys2))
 
 enter-unary-requires : tie.Need-enter-unary-requires
-enter-unary-requires c κs = 
+enter-unary-requires c κs =
     let row = c .before .before .before .before .before .before .before .before .args .row in
     (subst (Ready _ _) (unary-row (row .node .kind) (row .node .a) (row .node .b) (row .s) (row .t) (row .e) (c .before .before .match .keys3)) (c .before .before .before .before .before .before .before .before .pre .0), unary-children (row .node .kind) 0 0 (c .before .before .match .keys3))
 

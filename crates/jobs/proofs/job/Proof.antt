@@ -85,7 +85,7 @@ sub-run : tie.Need-sub-run
 sub-run c = omega (arith, ready-at (c .before .before .before .before .before .before .before .before .before .before .before .before .before .before .before .before) .long)
 
 run-requires : tie.Need-run-requires
-run-requires c κs = 
+run-requires c κs =
     let opens = c .before .before .before .before .before .before .before .before .before .before .before .before .before .«open» in
     let clear = c .before .before .before .before .before .before .before .before .before .clear in
     let ready = ready-at (c .before .before .before .before .before .before .before .before .before .before .before .before .before .before .before .before) in (
@@ -104,7 +104,7 @@ slice-aggregate-show : tie.Need-slice-aggregate-show
 slice-aggregate-show c = search needs
 
 show-requires : tie.Need-show-requires
-show-requires c κs = 
+show-requires c κs =
     let opens = c .before .before .before .before .before .before .before .before .before .before .before .before .before .before .before .before .before .before .before .before .before .before .before .before .before .«open» in
     let clear = c .before .before .before .before .before .before .before .before .before .before .before .before .before .before .before .before .before .before .before .before .before .clear in
     let run = c .before .before .before .before .before .before .before .before .before .before .before in
@@ -118,7 +118,7 @@ same-length-2 : tie.Need-same-length-2
 same-length-2 c = search needs
 
 returns-2 : tie.Need-returns-2
-returns-2 c = 
+returns-2 c =
     let opens = c .before .before .before .before .before .before .before .before .before .before .before .before .before .before .before .before .before .before .before .before .before .before .before .before .before .before .before .before .«open» in
     let clear = c .before .before .before .before .before .before .before .before .before .before .before .before .before .before .before .before .before .before .before .before .before .before .before .before .clear in
     let at = c .before .before .before .before .before .before .before .before .before .before .before .before .before .before .before .before .before .before .before .before .before .before .before .before .before .before .before .before .before .before .before in

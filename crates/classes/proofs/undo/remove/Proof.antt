@@ -81,7 +81,7 @@ same-length-3 c = search needs
 
 returns : tie.Need-returns
 unfolding written
-returns c = 
+returns c =
     let blank = rewritten-column (c .args .rows .now) (c .args .entries - 1) (0 ∷ 0 ∷ 0 ∷ 0 ∷ []) refl in
     λ trail n. rw (blank kind-at (omega arith), blank left-at (omega arith), blank right-at (omega arith), blank shape-at (omega arith))
 

@@ -124,8 +124,7 @@ step-requires c κs =
     let (us, w) = walking head s (begun head .pre .0 .6) in
     let there = top-there s w (some (c .before .before)) in
     let rows = begun head .args .rows .now in
-    let (shaped, given, rooted) = seeable s _ (there .0) (there .2) in
-    (
+    let (shaped, given, rooted) = seeable s _ (there .0) (there .2) in (
       steppable s w (some (c .before .before)),
       (record { shaped = is-row shape-at rows _ shaped; given = is-row kind-at rows _ given; rooted = rooted }, seen-low s _ (there .0) (there .2)),
     )

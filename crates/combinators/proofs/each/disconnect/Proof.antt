@@ -52,7 +52,7 @@ same-length-2 : tie.Need-same-length-2
 same-length-2 c = search needs
 
 returns : tie.Need-returns
-returns c = 
+returns c =
     let s = c .before .before .before .before .before .before .before .before .before .before .before .before .before .before .before .before .before in
     λ rank trail able. record {
       is = both (lent s) free (products s) _ (c .before .before .before .before .before .before .before .before .before .before .before .add-two .ensures) _ (c .before .before .before .before .add-three .ensures) rank trail able;

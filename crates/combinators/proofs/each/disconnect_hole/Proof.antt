@@ -67,7 +67,7 @@ same-length-2 : tie.Need-same-length-2
 same-length-2 c = search needs
 
 returns : tie.Need-returns
-returns c = 
+returns c =
     let s = c .before .before .before .before .before .before .before .before .before .before .before .before .before .before .before .before .before .before .before .before .before .before .before .before in
     let first = c .before .before .before .before .before .before .before .before .before .before .before .before .before .before .before .before .before .before in
     let later = both (two first) free (products s) _ (c .before .before .before .before .before .before .before .before .before .before .before .add-two2 .ensures) _ (c .before .before .before .before .add-three .ensures) in

@@ -31,7 +31,7 @@ same-length-2 : tie.Need-same-length-2
 same-length-2 c = search needs
 
 returns : tie.Need-returns
-returns c = 
+returns c =
     let call = c .before .before .before .before .before .before in
     let start = c .before .before .before .before .before .before .before .before .before .before .before in
     let answer = one-answer (lent start) (then call) (λ rank trail. refl) (call .add .ensures) _ _ (start .pre .2) in
@@ -39,7 +39,7 @@ returns c =
     let z : _≡_ {A = ℕ} 0 1 = cc in absurd (omega arith)
 
 add-result : tie.Need-add-result
-add-result c = 
+add-result c =
     let call = c .before .before .before .before .before .before in
     let start = c .before .before .before .before .before .before .before .before .before .before .before in
     record { fits = one-small (lent start) (then call) (λ rank trail. refl) (call .add .ensures) _ _ (start .pre .2) }
@@ -51,7 +51,7 @@ same-length-4 : tie.Need-same-length-4
 same-length-4 c = search needs
 
 returns-2 : tie.Need-returns-2
-returns-2 c = 
+returns-2 c =
     let call = c .before .before .before .before .before .before in
     one-grown (lent (c .before .before .before .before .before .before .before .before .before .before .before)) (then call) (λ rank trail. refl) (call .add .ensures)
 

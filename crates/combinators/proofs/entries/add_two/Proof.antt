@@ -24,7 +24,7 @@ add-one-requires : tie.Need-add-one-requires
 add-one-requires c κs = let start = c .before .before .before .before in front (lent start) (some start) (others start) (start .pre)
 
 add-one-requires-2 : tie.Need-add-one-requires-2
-add-one-requires-2 c κs = 
+add-one-requires-2 c κs =
     let first = c .before .before .before .before .before .before in
     let start = c .before .before .before .before .before .before .before .before .before .before .before in
     rest (lent start) (some start) (others start) (then first) (first .add-one .ensures) (start .pre)
@@ -36,7 +36,7 @@ same-length-2 : tie.Need-same-length-2
 same-length-2 c = search needs
 
 returns : tie.Need-returns
-returns c = 
+returns c =
     let first = c .before .before .before .before .before .before .before .before .before .before .before in
     let start = c .before .before .before .before .before .before .before .before .before .before .before .before .before .before .before .before in
     both (lent start) (some start) (others start) (then first) (first .add-one .ensures) _ (c .before .before .before .before .add-one2 .ensures)

@@ -114,17 +114,17 @@ first-child-requires : tie.Need-first-child-requires
 first-child-requires c κs = search needs
 
 arrow-at-requires : tie.Need-arrow-at-requires
-arrow-at-requires c κs = 
+arrow-at-requires c κs =
     let a = c .before .before in
     rw (c .first-child .ensures) (child-row (opened a) (room a) (node-of (begun a .args .n)) (begun a .pre .1 .1) (below a) 0)
 
 arrow-at-requires-2 : tie.Need-arrow-at-requires-2
-arrow-at-requires-2 c κs = 
+arrow-at-requires-2 c κs =
     let a = c .before .before .before .before in
     rw (begun a .pre .1 .0 .second ∙ second-child (node-of (begun a .args .n))) (child-row (opened a) (room a) (node-of (begun a .args .n)) (begun a .pre .1 .1) (below a) 1)
 
 enter-requires : tie.Need-enter-requires
-enter-requires c κs = 
+enter-requires c κs =
     let two = c .before .before in
     let a = past two in (
       ((from two .args .rank .now, from two .args .trail .now, able two .enterable), able two .named, entries-fit (opened a) (room a) (node-of (begun a .args .n)) (begun a .pre .1 .1) (below a)),
@@ -132,7 +132,7 @@ enter-requires c κs =
     )
 
 meet-requires : tie.Need-meet-requires
-meet-requires c κs = 
+meet-requires c κs =
     let e = c .before .before .before .before .before .before .before .before .before .before .before in
     let a = past (row e) in (
       meetable (able (row e)) (entered-table e) (enters e .is),
@@ -152,7 +152,7 @@ write-row-requires : tie.Need-write-row-requires
 write-row-requires c κs = let r = c .before .before .before .before .before .before .before .before .before .before .before .before .before .before .before .before .before .before .before .before .before .before .before .before .before .before .before .before .before in (row-there (opened (past r)) (room (past r)), from r .pre .1 .0)
 
 sub-t65 : tie.Need-sub-t65
-sub-t65 c = 
+sub-t65 c =
     let r = c .before .before .before .before .before .before .before .before .before .before .before .before .before .before .before .before .before .before .before .before .before .before .before .before .before .before .before .before .before .before .before .before .before in
     links-more (opened (past r)) (room (past r)) (node-of (from r .args .n)) (from r .pre .1 .1) (below (past r)) (meant (worked r)) (row-eq r (opened (past r))) (met (c .before .before .before .before .before .before .before .before .before .before .before .before .before .before .before .before .before .before) _ (c .before .before .before .before .before .before .made .given .1))
 
@@ -178,7 +178,7 @@ same-length-6 : tie.Need-same-length-6
 same-length-6 c = search needs
 
 returns-3 : tie.Need-returns-3
-returns-3 c = 
+returns-3 c =
     let r = c .before .before .before .before .before .before .before .before .before .before .before .before .before .before .before .before .before .before .before .before .before .before .before .before .before .before .before .before .before .before .before .before .before .before .before .before .before .before .before .before .before in
     let stopped = met (c .before .before .before .before .before .before .before .before .before .before .before .before .before .before .before .before .before .before .before .before .before .before .before .before .before .before) _ (c .before .before .before .before .before .before .before .before .before .before .before .before .before .before .rule .given .1) in
     let back = c .before .before .before .before .before .before .before .before .undo .ensures .given-back (was (from r) .classes) (able r .enterable .made) (clash-run (able r) (stopped .1)) refl in
@@ -203,7 +203,7 @@ same-length-12 : tie.Need-same-length-12
 same-length-12 c = search needs
 
 returns-4 : tie.Need-returns-4
-returns-4 c = 
+returns-4 c =
     let r = c .before .before .before .before .before .before .before .before .before .before .before .before .before .before .before .before .before .before .before .before .before .before .before .before .before .before .before .before .before .before .before .before .before in
     let a = from r .args in
     let m = met (c .before .before .before .before .before .before .before .before .before .before .before .before .before .before .before .before .before .before) _ (c .before .before .before .before .before .before .made .given .1) in

@@ -71,7 +71,7 @@ loop-less : tie.Need-loop-less Inv-loop μ-loop
 loop-less c = omega (arith, c .before .before .before .before .before .before .before .before .before .before .loop-test .taken)
 
 loop-again : tie.Need-loop-again Inv-loop μ-loop
-loop-again c = 
+loop-again c =
     let l = c .before .before .before .before .before .before in
     let inv = c .before .before .before .before .before .before .before .before .before .before .before .loop .inv in
     (l .add .kept .0 ∙ inv .0, l .add .kept .1 .0 ∙ inv .1, adding-again (inv .2) (there l) (then l) (c .before .before .before .before .before .before .before .standing-bound .ensures) (λ rank trail. refl) (l .add .ensures))
@@ -83,7 +83,7 @@ same-length-4 : tie.Need-same-length-4 Inv-loop μ-loop
 same-length-4 c = c .before .loop .inv .1
 
 returns-2 : tie.Need-returns-2 Inv-loop μ-loop
-returns-2 c = 
+returns-2 c =
     let pre = c .before .before .before .before .pre in
     (refl, opening-ends (pre .1) (pre .2) (pre .3) (pre .4) _ _ (c .before .loop .inv .2) (c .loop-test .left))
 
