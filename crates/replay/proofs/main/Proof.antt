@@ -1,33 +1,19 @@
--- `replay::main` ends: the measure is how many jobs may come yet.
-use mathlib.Core.Path.{_≡_, _∙_}
+-- `replay::main` ends: the measure is how many items may come yet.
 use borrow.Author.Needs.{needs}
-use lib.ListN.{length}
 use Rattle.replay.proofs.main.Statement.{statement}
 use Rattle.replay.proofs.main.Tie as tie
 
 abbrev Inv-loop : tie.InvT-loop
-Inv-loop job₀ answers₀ listing₀ bytes₀ left₀ job answers listing bytes left = (length job ≡ length job₀) × (length answers ≡ length answers₀) × (length listing ≡ length listing₀) × (length bytes ≡ length bytes₀)
+Inv-loop left₀ left = Prim.Unit {0}
 
 abbrev μ-loop : tie.MeasureT-loop
-μ-loop job₀ answers₀ listing₀ bytes₀ left₀ job answers listing bytes left = left
+μ-loop left₀ left = left
 
 loop-holds : tie.Need-loop-holds Inv-loop μ-loop
 loop-holds c = search needs
 
-slice-aggregate-one : tie.Need-slice-aggregate-one Inv-loop μ-loop
-slice-aggregate-one c = search needs
-
-slice-aggregate-one-2 : tie.Need-slice-aggregate-one-2 Inv-loop μ-loop
-slice-aggregate-one-2 c = search needs
-
-slice-aggregate-one-3 : tie.Need-slice-aggregate-one-3 Inv-loop μ-loop
-slice-aggregate-one-3 c = search needs
-
-slice-aggregate-one-4 : tie.Need-slice-aggregate-one-4 Inv-loop μ-loop
-slice-aggregate-one-4 c = search needs
-
-one-requires : tie.Need-one-requires Inv-loop μ-loop
-one-requires c κs = search needs
+item-requires : tie.Need-item-requires Inv-loop μ-loop
+item-requires c κs = search needs
 
 returns : tie.Need-returns Inv-loop μ-loop
 returns c = search needs
@@ -39,10 +25,7 @@ loop-less : tie.Need-loop-less Inv-loop μ-loop
 loop-less c = search needs
 
 loop-again : tie.Need-loop-again Inv-loop μ-loop
-loop-again c =
-    let one = c .before .before .before .before .before .before .one in
-    let inv = c .before .before .before .before .before .before .before .before .before .before .before .loop .inv in
-    (one .kept .0 ∙ inv .0, one .kept .1 .0 ∙ inv .1, one .kept .1 .1 .0 ∙ inv .2, one .kept .1 .1 .1 .0 ∙ inv .3)
+loop-again c = search needs
 
 returns-2 : tie.Need-returns-2 Inv-loop μ-loop
 returns-2 c = search needs
@@ -54,11 +37,7 @@ main-spec =
     Inv-loop
     μ-loop
     loop-holds
-    slice-aggregate-one
-    slice-aggregate-one-2
-    slice-aggregate-one-3
-    slice-aggregate-one-4
-    one-requires
+    item-requires
     returns
     sub-left
     loop-less
