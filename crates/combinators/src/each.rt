@@ -28,6 +28,8 @@ const ONE: u16 = 0;
 const POWER_256: u16 = 9;
 
 // The rules by their numbers in document 01. D = target s joins a fresh entry and has none.
+const NO_RULE: u16 = 0;
+
 const D_IS_TARGET: u16 = 0;
 
 const COMP_MIDDLE: u16 = 1;
@@ -65,7 +67,8 @@ fn unmet(parent: &[u16], rule: Rule) -> u16
     }
 }
 
-// A row of one entry, without rules.
+// A row of one entry, without rules. What stands for the first rule is never joined; it is no row of zeros, which the compiler would
+// write as one number of eight bytes and every other row would have to be packed to match.
 fn enter_one(
     parent: &mut [u16],
     rows: &mut [u16],
@@ -86,7 +89,7 @@ fn enter_one(
         source: source,
         target: target,
     };
-    let first = says(0, 0, 0);
+    let first = says(NO_RULE, source, target);
     Entered {
         entries,
         gives,
@@ -117,7 +120,7 @@ fn enter_two(
         source: source,
         target: target,
     };
-    let first = says(0, 0, 0);
+    let first = says(NO_RULE, source, target);
     Entered {
         entries,
         gives,
@@ -469,11 +472,12 @@ pub(super) fn word(parent: &[u16], rows: &[u16], links: u16, n: u16, e: u16) -> 
         let is = part (now (parent .entry)) (now (rows .entry)) (r .entries) links in
         Enters was (leaf (Word n) e) r is) ⌝ }
 {
+    let target = n + 1;
     let gives = Arrow {
         source: ONE,
-        target: n + 1,
+        target,
     };
-    let first = says(0, 0, 0);
+    let first = says(NO_RULE, target, target);
     Entered {
         entries: e,
         gives,

@@ -6,8 +6,8 @@ use borrow.Author.Needs.{needs}
 use Rattle.combinators.proofs.each.word.Statement.{statement}
 use Rattle.combinators.proofs.each.word.Tie as tie
 
-add-t8 : tie.Need-add-t8
-add-t8 c = search needs
+add-target : tie.Need-add-target
+add-target c = search needs
 
 says-requires : tie.Need-says-requires
 says-requires c κs = search needs
@@ -17,4 +17,4 @@ unfolding entered
 returns c = λ rank trail able. record { is = refl; gives = refl; left = done }
 
 pub word-spec : {M : Type 1} → statement M
-word-spec = tie.close (tie.spec add-t8 says-requires returns)
+word-spec = tie.close (tie.spec add-target says-requires returns)
