@@ -54,10 +54,11 @@ fn visit_unless_numbered(
         × Stands (laid (now parent) rank (now rows) trail entries links) rules
         × Settled (laid (now parent) rank (now rows) trail entries links) rules (now work) (now listing) count ts) ⌝ }
     requires { ⌜ a < entries ⌝ }
-    ensures { λ r. ⌜ ((rank trail : List ℕ) (links : ℕ) (rules : List Rule) (ts : List Ty)
-        → Stands (laid (now (parent .entry)) rank (now (rows .entry)) trail entries links) rules
-        → Settled (laid (now (parent .entry)) rank (now (rows .entry)) trail entries links) rules (now (work .entry)) (now (listing .entry)) count ts
-        → VisitedBy (laid (now (parent .entry)) rank (now (rows .entry)) trail entries links) rules (now (work .entry)) (now (listing .entry)) count ts a r (now (work .exit)) (now (listing .exit))) ⌝ }
+    ensures { λ r. ⌜ ((rank trail : List ℕ) (links : ℕ) (rules : List Rule) (ts : List Ty) →
+        let t = laid (now (parent .entry)) rank (now (rows .entry)) trail entries links in
+        Stands t rules
+        → Settled t rules (now (work .entry)) (now (listing .entry)) count ts
+        → VisitedBy t rules (now (work .entry)) (now (listing .entry)) count ts a r (now (work .exit)) (now (listing .exit))) ⌝ }
 {
     if walk::is_numbered(parent, work, a) {
         return Visited::Done(count);
@@ -81,10 +82,11 @@ fn visit_arrow(
         × Stands (laid (now parent) rank (now rows) trail entries links) rules
         × Settled (laid (now parent) rank (now rows) trail entries links) rules (now work) (now listing) count ts) ⌝ }
     requires { ⌜ (source < entries) × (target < entries) ⌝ }
-    ensures { λ r. ⌜ ((rank trail : List ℕ) (links : ℕ) (rules : List Rule) (ts : List Ty)
-        → Stands (laid (now (parent .entry)) rank (now (rows .entry)) trail entries links) rules
-        → Settled (laid (now (parent .entry)) rank (now (rows .entry)) trail entries links) rules (now (work .entry)) (now (listing .entry)) count ts
-        → ArrowBy (laid (now (parent .entry)) rank (now (rows .entry)) trail entries links) rules (now (work .entry)) (now (listing .entry)) count ts source target r (now (work .exit)) (now (listing .exit))) ⌝ }
+    ensures { λ r. ⌜ ((rank trail : List ℕ) (links : ℕ) (rules : List Rule) (ts : List Ty) →
+        let t = laid (now (parent .entry)) rank (now (rows .entry)) trail entries links in
+        Stands t rules
+        → Settled t rules (now (work .entry)) (now (listing .entry)) count ts
+        → ArrowBy t rules (now (work .entry)) (now (listing .entry)) count ts source target r (now (work .exit)) (now (listing .exit))) ⌝ }
 {
     if walk::is_numbered(parent, work, source) {
         return visit_unless_numbered(parent, rows, work, listing, entries, count, target);
@@ -110,10 +112,11 @@ fn visit_all(
         × Stands (laid (now parent) rank (now rows) trail entries links) rules
         × Settled (laid (now parent) rank (now rows) trail entries links) rules (now work) (now listing) 0 []) ⌝ }
     requires { ⌜ Closable entries (now nodes) (now work) (now listing) kept ⌝ }
-    ensures { λ r. ⌜ ((rank trail : List ℕ) (links : ℕ) (rules : List Rule)
-        → Stands (laid (now (parent .entry)) rank (now (rows .entry)) trail entries links) rules
-        → Settled (laid (now (parent .entry)) rank (now (rows .entry)) trail entries links) rules (now (work .entry)) (now (listing .entry)) 0 []
-        → AllBy (laid (now (parent .entry)) rank (now (rows .entry)) trail entries links) rules (now (nodes .entry)) (now (listing .entry)) kept r (now (work .exit)) (now (listing .exit))) ⌝ }
+    ensures { λ r. ⌜ ((rank trail : List ℕ) (links : ℕ) (rules : List Rule) →
+        let t = laid (now (parent .entry)) rank (now (rows .entry)) trail entries links in
+        Stands t rules
+        → Settled t rules (now (work .entry)) (now (listing .entry)) 0 []
+        → AllBy t rules (now (nodes .entry)) (now (listing .entry)) kept r (now (work .exit)) (now (listing .exit))) ⌝ }
 {
     let mut i: u16 = 0;
     let mut count: u16 = 0;
@@ -196,9 +199,10 @@ pub fn close(
     requires { ⌜ ((rank trail : List ℕ) × (links : ℕ) × (rules : List Rule)
         × Stands (laid (now parent) rank (now rows) trail entries links) rules) ⌝ }
     requires { ⌜ Closable entries (now nodes) (now work) (now listing) kept ⌝ }
-    ensures { λ r. ⌜ ((rank trail : List ℕ) (links : ℕ) (rules : List Rule)
-        → Stands (laid (now (parent .entry)) rank (now (rows .entry)) trail entries links) rules
-        → ClosedBy (bounds (laid (now (parent .entry)) rank (now (rows .entry)) trail entries links)) rules (now (nodes .entry)) kept (now (listing .entry)) r (now (listing .exit))) ⌝ }
+    ensures { λ r. ⌜ ((rank trail : List ℕ) (links : ℕ) (rules : List Rule) →
+        let t = laid (now (parent .entry)) rank (now (rows .entry)) trail entries links in
+        Stands t rules
+        → ClosedBy (bounds t) rules (now (nodes .entry)) kept (now (listing .entry)) r (now (listing .exit))) ⌝ }
 {
     clear(work, entries);
     match visit_all(parent, rows, nodes, work, listing, entries, kept) {

@@ -180,10 +180,11 @@ pub(super) fn visit(
         × Settled (laid (now parent) rank (now rows) trail entries links) rules (now work) (now listing) count ts) ⌝ }
     requires { ⌜ a < entries ⌝ }
     requires { ⌜ mark-at (now work) (root-in (now parent) a) ≡ 0 ⌝ }
-    ensures { λ r. ⌜ ((rank trail : List ℕ) (links : ℕ) (rules : List Rule) (ts : List Ty)
-        → Stands (laid (now (parent .entry)) rank (now (rows .entry)) trail entries links) rules
-        → Settled (laid (now (parent .entry)) rank (now (rows .entry)) trail entries links) rules (now (work .entry)) (now (listing .entry)) count ts
-        → VisitedBy (laid (now (parent .entry)) rank (now (rows .entry)) trail entries links) rules (now (work .entry)) (now (listing .entry)) count ts a r (now (work .exit)) (now (listing .exit))) ⌝ }
+    ensures { λ r. ⌜ ((rank trail : List ℕ) (links : ℕ) (rules : List Rule) (ts : List Ty) →
+        let t = laid (now (parent .entry)) rank (now (rows .entry)) trail entries links in
+        Stands t rules
+        → Settled t rules (now (work .entry)) (now (listing .entry)) count ts
+        → VisitedBy t rules (now (work .entry)) (now (listing .entry)) count ts a r (now (work .exit)) (now (listing .exit))) ⌝ }
 {
     open(work, 0, union_bound::root(parent, a));
     let mut depth: u16 = 1;
