@@ -142,7 +142,7 @@ pub fn offer(s: State, n: Node) -> Put
     let mut nodes = s.nodes;
     let mut pending = [0u16; PENDING];
     let live = s.live;
-    let step = state::offer(
+    let step = offers::offer(
         &mut parent,
         &mut rank,
         &mut rows,

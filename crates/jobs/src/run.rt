@@ -44,7 +44,7 @@ fn put(
         × (now (listed .exit) ≡ settled (getD (now (bytes .entry)) from 0) (r .answer) between)) ⌝ }
 {
     match records::asked(bytes, from) {
-        Asks::Offer => state::offer(
+        Asks::Offer => offers::offer(
             parent,
             rank,
             rows,

@@ -1,4 +1,4 @@
--- `types::state::offer` meets its contract: each way out is one of `Offering`'s.
+-- `offers::offer` meets its contract: each way out is one of `Offering`'s.
 use mathlib.Core.Path.{_≡_, refl, ap, _∙_, subst}
 use Prim.Native.Nat.{ℕ, _*_, _<_}
 use borrow.Author.Tests.{not-true, not-false}
@@ -8,21 +8,22 @@ use Rattle.classes.specs.Columns.{laid}
 use Rattle.nodes.specs.Layout.{Row, arrow, row-of}
 use Rattle.nodes.specs.Coded.{node-of}
 use Rattle.nodes.specs.Meant.{meant}
 use Rattle.types.specs.Answers.{Below}
 use Rattle.combinators.specs.Entered.{entered}
 use Rattle.nodes.specs.Kept.{node-width, row-numbers, source-at, target-at}
 use Rattle.types.specs.States.{State, held, Opened}
 use Rattle.combinators.specs.Entering.{Entering}
-use Rattle.types.specs.Applying.{row-written, Meeting, met-links}
+use Rattle.types.specs.Applying.{row-written}
+use Rattle.offers.specs.RulesMet.{RulesMet, met-links}
 use Rattle.nodes.specs.declared.arrow.Adds.{Adds}
 use Rattle.nodes.specs.declared.arrow.Arrow.{Arrow}
-use Rattle.types.specs.declared.state.Met.{Met}
+use Rattle.offers.specs.declared.Met.{Met}
 use Rattle.types.proofs.Applies.{Applicable, meetable, clash-run, clash-marked}
-use Rattle.types.proofs.Children.{second-child}
+use Rattle.offers.proofs.Children.{second-child}
 use Rattle.types.proofs.Offering.{offer-full, row-there, offer-no-child, child-row, row-is, entries-fit, applicable, offer-refused, kept-fits, met-row, links-more, offer-kept}
 use borrow.Author.Needs.{needs}
-use Rattle.types.proofs.state.offer.Statement.{statement}
-use Rattle.types.proofs.state.offer.Tie as tie
+use Rattle.offers.proofs.offer.Statement.{statement}
+use Rattle.offers.proofs.offer.Tie as tie
 
 -- the state that was lent
 abbrev was : tie.Start → State
@@ -90,10 +91,10 @@ module _ (c : tie.After-meet) where
   abbrev left-with : Met → Table
   left-with r = let m = c .meet .last in laid (m .0) (m .1 .0) (m .1 .1 .0) (m .1 .1 .1 .0) (e .enter .result .entries) (met-links r)
 
-  met : (r : Met) → c .meet .result ≡ r → Meeting (entered (was (from (row e)) .classes) (meant (worked (row e)) .entries)) (meant (worked (row e)) .needs) r (left-with r)
+  met : (r : Met) → c .meet .result ≡ r → RulesMet (entered (was (from (row e)) .classes) (meant (worked (row e)) .entries)) (meant (worked (row e)) .needs) r (left-with r)
   met r is =
-      subst (λ (x : Met). Meeting (entered (was (from (row e)) .classes) (meant (worked (row e)) .entries)) (meant (worked (row e)) .needs) x (left-with x)) is
-      (subst (λ (x : Table). Meeting x (meant (worked (row e)) .needs) (c .meet .result) (left-with (c .meet .result))) (enters e .is) (c .meet .ensures))
+      subst (λ (x : Met). RulesMet (entered (was (from (row e)) .classes) (meant (worked (row e)) .entries)) (meant (worked (row e)) .needs) x (left-with x)) is
+      (subst (λ (x : Table). RulesMet x (meant (worked (row e)) .needs) (c .meet .result) (left-with (c .meet .result))) (enters e .is) (c .meet .ensures))
 
 cast-if1 : tie.Need-cast-if1
 cast-if1 c = search needs

@@ -1,4 +1,4 @@
--- `types::state::meet` meets its contract. The invariant: the rules left to join lead to what all of them lead to from the start, and the next is at hand.
+-- `offers::meet` meets its contract. The invariant: the rules left to join lead to what all of them lead to from the start, and the next is at hand.
 use mathlib.Core.Path.{_≡_, refl, _∙_}
 use mathlib.Core.List.{[], _∷_}
 use Prim.Native.Nat.{_+_, _-_, _<_}
@@ -13,9 +13,9 @@ use Rattle.classes.specs.Forced.{equal}
 use Rattle.classes.specs.Merging.{Merges}
 use Rattle.nodes.specs.Layout.{says}
 use Rattle.nodes.specs.Meant.{meant}
-use Rattle.types.proofs.Joining.{Joins, joins-begin, joins-again, joins-stop, joins-end, one-live, other-live, links-fit, merges-as, none-left, some-left}
-use Rattle.types.proofs.state.meet.Statement.{statement}
-use Rattle.types.proofs.state.meet.Tie as tie
+use Rattle.offers.proofs.Joining.{Joins, joins-begin, joins-again, joins-stop, joins-end, one-live, other-live, links-fit, merges-as, none-left, some-left}
+use Rattle.offers.proofs.meet.Statement.{statement}
+use Rattle.offers.proofs.meet.Tie as tie
 
 abbrev Inv-loop : tie.InvT-loop
 Inv-loop parent₀ rank₀ rows₀ trail₀ pending₀ row count entries links₀ i₀ r₀ parent rank rows trail pending links i r =

@@ -1,0 +1,2 @@
+-- The promise of a private function. What an offer promises stands in `types`: `Calls`.
+pub mod RulesMet
