@@ -1,13 +1,15 @@
 -- `jobs::job` meets its contract: it refuses, or puts all the records and hands over what is shown.
 use mathlib.Core.Path.{_≡_, refl, sym, _∙_, subst}
 use mathlib.Core.Logic.{⊎-elim}
-use mathlib.Core.List.{[], _∷_}
-use Prim.Native.Nat.{ℕ}
+use mathlib.Core.List.{List, [], _∷_}
+use Prim.Native.Nat.{ℕ, _-_, _/_}
 use native.Mathlib.Omega.{arith}
 use lib.ListN.{length, length-replicate}
 use types.Run.{OneOf}
 use denote.Enum.Declared.{tagOf}
+use Rattle.nodes.specs.declared.Node.{Node}
 use Rattle.types.specs.Limits.{longest-listing, most-entries, most-nodes, work-long}
+use Rattle.types.specs.States.{State, held}
 use Rattle.types.proofs.Begun.{opened-first}
 use Rattle.formats.specs.Header.{judged}
 use Rattle.formats.specs.declared.header.Outcome.{Outcome}
@@ -15,7 +17,7 @@ use Rattle.formats.specs.declared.header.Outcome.the-variants.{Done}
 use Rattle.formats.proofs.header.Outcome.{the-type}
 use Rattle.formats.proofs.Judging.{Ready, ready}
 use Rattle.jobs.specs.Jobs.{Job}
-use Rattle.jobs.proofs.Running.{ran}
+use Rattle.jobs.proofs.Running.{Ran, ran}
 use Rattle.jobs.proofs.Finishing.{can-be-shown, finished}
 use borrow.Author.Needs.{needs}
 use Rattle.jobs.proofs.job.Statement.{statement}
@@ -100,16 +102,38 @@ run-requires c κs =
       ),
     )
 
+-- all the records are put: `start` is what was lent, `told` that the job can be run
+module _ (c : tie.After-run) where
+  abbrev told : tie.After-enum-told
+  told = c .before .before .before .before .before .before .before .before .before .before .before .before .before .before .before .before .before
+
+  abbrev start : tie.Start
+  start = told .before .before .before .before .before .before
+
+  abbrev then : List ℕ
+  then = c .run .last .1 .1 .1 .1 .1 .1 .1 .1 .1 .0
+
+  abbrev listed : List ℕ
+  listed = c .run .last .1 .1 .1 .1 .1 .1 .0
+
+  abbrev left : State
+  left = let l = c .run .last in held (l .0) (l .1 .0) (l .1 .1 .0) (l .1 .1 .1 .0) (l .1 .1 .1 .1 .1 .0) (c .run .result)
+
+  all-put : (kept : List Node) × Ran (start .args .job .now) ((length (start .args .job .now) - 16) / 8) (start .args .answers .now) then listed kept
+  all-put =
+      let opens = c .before .before .before .before .before .before .before .before .before .before .before .before .before .before .«open» in
+      ran {s′ = left} (opened-first most-nodes most-entries (omega arith) (omega arith) (opens .ensures .0) (opens .ensures .1)) (c .before .before .before .before .before .before .before .before .before .before .clear .ensures) (c .run .ensures)
+
+  listed-long : length listed ≡ longest-listing
+  listed-long = c .run .kept .1 .1 .1 .1 .1 .1 .0 ∙ c .before .before .before .before .before .before .before .before .before .before .clear .kept .0 ∙ length-replicate {A = ℕ} longest-listing 0
+
 slice-aggregate-show : tie.Need-slice-aggregate-show
 slice-aggregate-show c = search needs
 
 show-requires : tie.Need-show-requires
 show-requires c κs =
-    let opens = c .before .before .before .before .before .before .before .before .before .before .before .before .before .before .before .before .before .before .before .before .before .before .before .before .before .«open» in
-    let clear = c .before .before .before .before .before .before .before .before .before .before .before .before .before .before .before .before .before .before .before .before .before .clear in
     let run = c .before .before .before .before .before .before .before .before .before .before .before in
-    let (kept, r) = ran (opened-first most-nodes most-entries (omega arith) (omega arith) (opens .ensures .0) (opens .ensures .1)) (clear .ensures) (run .run .ensures) in
-    can-be-shown r (run .run .kept .1 .1 .1 .1 .1 .1 .0 ∙ clear .kept .0 ∙ length-replicate {A = ℕ} longest-listing 0) (ready-at (c .before .before .before .before .before .before .before .before .before .before .before .before .before .before .before .before .before .before .before .before .before .before .before .before .before .before .before .before) .numbers)
+    can-be-shown (all-put run .1) (listed-long run) (ready-at (told run) .numbers)
 
 same-length : tie.Need-same-length
 same-length c = search needs
@@ -119,11 +143,8 @@ same-length-2 c = search needs
 
 returns-2 : tie.Need-returns-2
 returns-2 c =
-    let opens = c .before .before .before .before .before .before .before .before .before .before .before .before .before .before .before .before .before .before .before .before .before .before .before .before .before .before .before .before .«open» in
-    let clear = c .before .before .before .before .before .before .before .before .before .before .before .before .before .before .before .before .before .before .before .before .before .before .before .before .clear in
-    let at = c .before .before .before .before .before .before .before .before .before .before .before .before .before .before .before .before .before .before .before .before .before .before .before .before .before .before .before .before .before .before .before in
-    let (kept, r) = ran (opened-first most-nodes most-entries (omega arith) (omega arith) (opens .ensures .0) (opens .ensures .1)) (clear .ensures) (c .before .before .before .before .before .before .before .before .before .before .before .before .before .before .run .ensures) in
-    finished r (done-at at) (omega (arith, ready-at at .long)) (c .before .before .show .ensures)
+    let run = c .before .before .before .before .before .before .before .before .before .before .before .before .before .before in
+    finished (all-put run .1) (done-at (told run)) (omega (arith, ready-at (told run) .long)) (c .before .before .show .ensures)
 
 pub job-spec : {M : Type 1} → statement M
 job-spec =
