@@ -1,4 +1,3 @@
--- What a reader must believe of a job's bytes, in reading order.
-pub mod Header
+-- What a reader must believe of answers and listings as a job hands them over, in reading order.
 pub mod Bytes
 pub mod Shown

@@ -1,8 +1,6 @@
-// The bytes of a job: its header, the eight bytes of each answer, and the listing that is handed over at the end. No table is
-// touched here.
+// What a job hands over: the eight bytes of each answer, and the listing at the end. No table is touched here.
 //
-// header: the refusals 16 to 22. answers: an answer as eight bytes. listing: which listing a job shows.
+// answers: an answer as eight bytes. listing: which listing a job shows.
 
 pub mod answers;
-pub mod header;
 pub mod listing;

@@ -1,13 +1,10 @@
 // The job call: any bytes in, every answer and every number of the listing out. It starts from a fresh state, puts the records
 // one after the other to the core of `types` on tables of its own, and copies no table: its cost is that of its records.
 
-pub mod run;
-
-use formats::header;
-use formats::header::EIGHT;
-use formats::header::HEADER;
-use formats::header::Outcome;
 use formats::listing;
+use headers::EIGHT;
+use headers::HEADER;
+use headers::Outcome;
 use types::limits::ENTRIES;
 use types::limits::LISTING;
 use types::limits::NODE_ROWS;
@@ -21,7 +18,7 @@ ghost use Rattle.jobs.specs.Jobs.{Job};
 pub fn job(job: &[u8], answers: &mut [u8], listing: &mut [u16]) -> Outcome
     ensures { λ r. ⌜ Job (now (job .entry)) (now (answers .entry)) (now (listing .entry)) r (now (answers .exit)) (now (listing .exit)) ⌝ }
 {
-    let outcome = header::judge(job, answers.len(), listing.len());
+    let outcome = headers::judge(job, answers.len(), listing.len());
     let Outcome::Done = outcome else {
         return outcome;
     };
@@ -34,7 +31,7 @@ pub fn job(job: &[u8], answers: &mut [u8], listing: &mut [u16]) -> Outcome
     let mut listed = [0u16; LISTING];
     let live = state::open(&mut parent, &mut rows);
     listing::clear(&mut listed);
-    run::run(
+    runs::run(
         &mut parent,
         &mut rank,
         &mut rows,

@@ -81,13 +81,11 @@ fn node(kind: u8, a: u16, b: u16) -> Asks
 fn by_kind(kind: u8, a: u16, b: u16) -> Asks
     ensures { λ r. ⌜ r ≡ asks (by-kind kind a b) ⌝ }
 {
-    if kind <= 16 {
-        return node(kind, a, b);
-    }
     match kind {
+        1..=16 => node(kind, a, b),
         64 => unless(b, Asks::TakeBack),
         65 => unless(a, unless(b, Asks::Close)),
-        _ => Asks::Malformed,
+        0 | 17..=63 | 66..=255 => Asks::Malformed,
     }
 }
 

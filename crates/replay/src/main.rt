@@ -16,8 +16,8 @@ mod lending;
 mod plain;
 mod stream;
 
-use formats::header::EIGHT;
-use formats::header::HEADER;
+use headers::EIGHT;
+use headers::HEADER;
 
 const MOST_RECORDS: usize = 4096;
 
@@ -33,7 +33,7 @@ const PLAIN: usize = 1;
 
 // The call itself, and its code. Nothing that it promises is needed here, so it is kept out of the other functions' proofs.
 fn run(job: &[u8], answers: &mut [u8], listing: &mut [u16]) -> u32 {
-    formats::header::code(jobs::job(job, answers, listing))
+    headers::code(jobs::job(job, answers, listing))
 }
 
 // One item: whether another may follow.

@@ -3,8 +3,8 @@
 use super::ANSWERS;
 use super::run;
 use super::stream;
-use formats::header::EIGHT;
-use formats::header::HEADER;
+use headers::EIGHT;
+use headers::HEADER;
 use types::limits::LISTING;
 ghost use Prim.Native.Nat.{_+_, _≤_};
 ghost use lib.ListN.{length};

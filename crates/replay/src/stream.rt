@@ -1,7 +1,7 @@
 // What is read from standard input, and what is written to standard output of answers and listings.
 
-use formats::header::EIGHT;
-use formats::header::HEADER;
+use headers::EIGHT;
+use headers::HEADER;
 use libc::STDIN_FILENO;
 use libc::STDOUT_FILENO;
 use types::limits::LISTING;

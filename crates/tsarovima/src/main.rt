@@ -37,7 +37,7 @@ fn too_long(name: &[u8]) {
 
 // The job's code. Nothing that the call promises is needed here, so it is kept out of the other functions' proofs.
 fn put(job: &[u8], answers: &mut [u8], listing: &mut [u16]) -> u32 {
-    formats::header::code(jobs::job(job, answers, listing))
+    headers::code(jobs::job(job, answers, listing))
 }
 
 // Puts the first bytes of what was read, as a job, and reports.

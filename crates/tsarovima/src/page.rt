@@ -1,35 +1,28 @@
 // The report's bytes, gathered on a page, a lent array, and written when it is nearly full: one system call serves many lines. Nothing
 // is promised of what is printed; a byte for which there is no room is left out, and `end_line` keeps room for a line.
+//
+// A place on the page is where the next byte goes. After a failure of standard output it is STOPPED, past every page, and nothing more
+// is written.
 
 use libc::STDOUT_FILENO;
 
-// Where the next byte goes, and whether standard output has taken every byte so far. After a failure nothing more is written.
-pub struct Place {
-    pub at: usize,
-    pub open: bool,
-}
+pub(super) const START: usize = 0;
+
+pub(super) const STOPPED: usize = 65536;
 
 // No line of the report is longer.
 const LINE: usize = 128;
 
-pub(super) fn start() -> Place {
-    Place { at: 0, open: true }
-}
-
-pub(super) fn byte(page: &mut [u8], place: Place, b: u8) -> Place {
-    let at = place.at;
-    if at < page.len() {
-        page[at] = b;
-        Place {
-            at: at + 1,
-            open: place.open,
-        }
+pub(super) fn byte(page: &mut [u8], place: usize, b: u8) -> usize {
+    if place < page.len() {
+        page[place] = b;
+        place + 1
     } else {
         place
     }
 }
 
-pub(super) fn text(page: &mut [u8], from: Place, words: &[u8]) -> Place {
+pub(super) fn text(page: &mut [u8], from: usize, words: &[u8]) -> usize {
     let mut place = from;
     let mut i: usize = 0;
     while i < words.len() {
@@ -39,7 +32,7 @@ pub(super) fn text(page: &mut [u8], from: Place, words: &[u8]) -> Place {
     place
 }
 
-pub(super) fn number(page: &mut [u8], place: Place, n: u64) -> Place {
+pub(super) fn number(page: &mut [u8], place: usize, n: u64) -> usize {
     let mut digits = [0u8; 20];
     let k = io::decimal(n, &mut digits);
     text(page, place, &digits[..k])
@@ -55,30 +48,24 @@ pub(super) fn front(bytes: &[u8], n: usize) -> &[u8] {
     }
 }
 
-fn written(open: bool, bytes: &[u8]) -> bool {
-    if open {
-        io::write_all(STDOUT_FILENO, bytes)
-    } else {
-        false
-    }
-}
-
 // Writes what is gathered, and begins the page again.
-pub(super) fn flush(page: &[u8], place: Place) -> Place {
-    let at = place.at;
-    Place {
-        at: 0,
-        open: written(place.open, front(page, at)),
+pub(super) fn flush(page: &[u8], place: usize) -> usize {
+    if page.len() < place {
+        return STOPPED;
+    }
+    if io::write_all(STDOUT_FILENO, front(page, place)) {
+        START
+    } else {
+        STOPPED
     }
 }
 
-pub(super) fn end_line(page: &mut [u8], place: Place) -> Place {
+pub(super) fn end_line(page: &mut [u8], place: usize) -> usize {
     let ended = byte(page, place, b'\n');
-    let at = ended.at;
-    if page.len() < at {
+    if page.len() < ended {
         return ended;
     }
-    if page.len() - at < LINE {
+    if page.len() - ended < LINE {
         return flush(page, ended);
     }
     ended

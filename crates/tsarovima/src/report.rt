@@ -2,9 +2,10 @@
 // types and arrows. The numbers are read out of the buffers that the job call filled, and an index past an end reads as 0.
 
 use super::page;
-use super::page::Place;
-use formats::header::EIGHT;
-use formats::header::HEADER;
+use super::page::START;
+use super::page::STOPPED;
+use headers::EIGHT;
+use headers::HEADER;
 use nodes::text;
 use nodes::text::Text;
 
@@ -51,7 +52,7 @@ fn kind(record: &[u8]) -> u8 {
 }
 
 // The text of a rule, byte for byte, by way of a lent array.
-fn rule_by(page: &mut [u8], place: Place, rule: u16, space: &mut [u8]) -> Place {
+fn rule_by(page: &mut [u8], place: usize, rule: u16, space: &mut [u8]) -> usize {
     if space.len() < LONGEST {
         return place;
     }
@@ -61,13 +62,13 @@ fn rule_by(page: &mut [u8], place: Place, rule: u16, space: &mut [u8]) -> Place 
     }
 }
 
-fn rule(page: &mut [u8], place: Place, rule: u16) -> Place {
+fn rule(page: &mut [u8], place: usize, rule: u16) -> usize {
     let mut space = [0u8; LONGEST];
     rule_by(page, place, rule, &mut space)
 }
 
 // What a record of this kind did, where its code is 0.
-fn done(page: &mut [u8], place: Place, kind: u8) -> Place {
+fn done(page: &mut [u8], place: usize, kind: u8) -> usize {
     match kind {
         TAKE_BACK => page::text(page, place, b"taken back"),
         CLOSE => page::text(page, place, b"closed"),
@@ -75,7 +76,7 @@ fn done(page: &mut [u8], place: Place, kind: u8) -> Place {
     }
 }
 
-fn words(page: &mut [u8], place: Place, kind: u8, code: u16, clash: u16) -> Place {
+fn words(page: &mut [u8], place: usize, kind: u8, code: u16, clash: u16) -> usize {
     match code {
         0 => done(page, place, kind),
         1 => page::text(page, place, b"malformed"),
@@ -89,7 +90,7 @@ fn words(page: &mut [u8], place: Place, kind: u8, code: u16, clash: u16) -> Plac
 }
 
 // An answer's numbers: code, first and second.
-fn numbers(page: &mut [u8], from: Place, code: u16, first: u16, second: u64) -> Place {
+fn numbers(page: &mut [u8], from: usize, code: u16, first: u16, second: u64) -> usize {
     let mut place = page::number(page, from, code as u64);
     place = page::text(page, place, b" ");
     place = page::number(page, place, first as u64);
@@ -97,7 +98,7 @@ fn numbers(page: &mut [u8], from: Place, code: u16, first: u16, second: u64) -> 
     page::number(page, place, second)
 }
 
-fn record(page: &mut [u8], from: Place, index: usize, record: &[u8], answer: &[u8]) -> Place {
+fn record(page: &mut [u8], from: usize, index: usize, record: &[u8], answer: &[u8]) -> usize {
     let code = two(answer, 0);
     let first = two(answer, 2);
     let mut place = page::number(page, from, index as u64);
@@ -108,7 +109,7 @@ fn record(page: &mut [u8], from: Place, index: usize, record: &[u8], answer: &[u
 }
 
 // The line of one record, if both buffers have its bytes.
-fn record_at(page: &mut [u8], place: Place, index: usize, records: &[u8], answers: &[u8]) -> Place {
+fn record_at(page: &mut [u8], place: usize, index: usize, records: &[u8], answers: &[u8]) -> usize {
     if records.len() / EIGHT <= index {
         return place;
     }
@@ -127,7 +128,7 @@ fn record_at(page: &mut [u8], place: Place, index: usize, records: &[u8], answer
     page::end_line(page, said)
 }
 
-fn records(page: &mut [u8], from: Place, records: &[u8], answers: &[u8]) -> Place {
+fn records(page: &mut [u8], from: usize, records: &[u8], answers: &[u8]) -> usize {
     let count = records.len() / EIGHT;
     let mut place = from;
     let mut i: usize = 0;
@@ -143,18 +144,18 @@ fn number_at(listing: &[u16], at: usize) -> u16 {
 }
 
 // A type by its number.
-fn named(page: &mut [u8], place: Place, number: u16) -> Place {
+fn named(page: &mut [u8], place: usize, number: u16) -> usize {
     let named = page::byte(page, place, b't');
     page::number(page, named, number as u64)
 }
 
-fn two_types(page: &mut [u8], from: Place, left: u16, between: &[u8], right: u16) -> Place {
+fn two_types(page: &mut [u8], from: usize, left: u16, between: &[u8], right: u16) -> usize {
     let mut place = named(page, from, left);
     place = page::text(page, place, between);
     named(page, place, right)
 }
 
-fn made_of(page: &mut [u8], place: Place, kind: u16, left: u16, right: u16) -> Place {
+fn made_of(page: &mut [u8], place: usize, kind: u16, left: u16, right: u16) -> usize {
     match kind {
         1 => two_types(page, place, left, b" + ", right),
         2 => two_types(page, place, left, b" \xC3\x97 ", right),
@@ -163,7 +164,7 @@ fn made_of(page: &mut [u8], place: Place, kind: u16, left: u16, right: u16) -> P
 }
 
 // The line of one type, whose triple begins at `at`.
-fn type_line(page: &mut [u8], from: Place, number: u16, listing: &[u16], at: usize) -> Place {
+fn type_line(page: &mut [u8], from: usize, number: u16, listing: &[u16], at: usize) -> usize {
     if listing.len() < at {
         return from;
     }
@@ -181,7 +182,7 @@ fn type_line(page: &mut [u8], from: Place, number: u16, listing: &[u16], at: usi
 }
 
 // The line of one node, whose pair begins at `at`.
-fn arrow_line(page: &mut [u8], from: Place, number: u16, listing: &[u16], at: usize) -> Place {
+fn arrow_line(page: &mut [u8], from: usize, number: u16, listing: &[u16], at: usize) -> usize {
     if listing.len() < at {
         return from;
     }
@@ -202,7 +203,7 @@ fn pair_at(offset: u16, number: u16) -> usize {
     (offset as usize) + 2 * (number as usize)
 }
 
-fn types(page: &mut [u8], from: Place, listing: &[u16], offset: u16, count: u16) -> Place {
+fn types(page: &mut [u8], from: usize, listing: &[u16], offset: u16, count: u16) -> usize {
     let mut place = from;
     let mut i: u16 = 0;
     while i < count {
@@ -212,7 +213,7 @@ fn types(page: &mut [u8], from: Place, listing: &[u16], offset: u16, count: u16)
     place
 }
 
-fn arrows(page: &mut [u8], from: Place, listing: &[u16], offset: u16, count: u16) -> Place {
+fn arrows(page: &mut [u8], from: usize, listing: &[u16], offset: u16, count: u16) -> usize {
     let mut place = from;
     let mut i: u16 = 0;
     while i < count {
@@ -222,7 +223,7 @@ fn arrows(page: &mut [u8], from: Place, listing: &[u16], offset: u16, count: u16
     place
 }
 
-fn counts(page: &mut [u8], from: Place, nodes: u16, types: u16) -> Place {
+fn counts(page: &mut [u8], from: usize, nodes: u16, types: u16) -> usize {
     let mut place = page::text(page, from, b"nodes ");
     place = page::number(page, place, nodes as u64);
     place = page::text(page, place, b" types ");
@@ -231,7 +232,7 @@ fn counts(page: &mut [u8], from: Place, nodes: u16, types: u16) -> Place {
 }
 
 // The listing opens with four numbers: nodes, types, and the offsets of types and of arrows.
-fn listed(page: &mut [u8], from: Place, listing: &[u16]) -> Place {
+fn listed(page: &mut [u8], from: usize, listing: &[u16]) -> usize {
     let nodes = number_at(listing, 0);
     let all = number_at(listing, 1);
     let mut place = counts(page, from, nodes, all);
@@ -239,8 +240,8 @@ fn listed(page: &mut [u8], from: Place, listing: &[u16]) -> Place {
     arrows(page, place, listing, number_at(listing, 3), nodes)
 }
 
-fn all(page: &mut [u8], code: u32, job: &[u8], answers: &[u8], listing: &[u16]) -> Place {
-    let mut place = page::text(page, page::start(), b"job ");
+fn all(page: &mut [u8], code: u32, job: &[u8], answers: &[u8], listing: &[u16]) -> usize {
+    let mut place = page::text(page, START, b"job ");
     place = page::number(page, place, code as u64);
     place = page::end_line(page, place);
     if code != 0 {
@@ -258,6 +259,5 @@ pub(super) fn report(code: u32, job: &[u8], answers: &[u8], listing: &[u16]) -> 
     let mut space = [0u8; PAGE];
     let page: &mut [u8] = &mut space;
     let place = all(page, code, job, answers, listing);
-    let last = page::flush(page, place);
-    last.open
+    page::flush(page, place) != STOPPED
 }

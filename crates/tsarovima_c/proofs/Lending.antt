@@ -15,7 +15,7 @@ use Rattle.combinators.specs.Entered.{entered}
 use Rattle.types.specs.Limits.{most-nodes, most-entries, nodes-long}
 use Rattle.types.specs.States.{State, state, Opened}
 use Rattle.types.proofs.Begun.{opened-first}
-use Rattle.jobs.specs.Putting.{Recorded, Puts}
+use Rattle.runs.specs.Putting.{Recorded, Puts}
 use Rattle.tsarovima_c.specs.Lent.{tables, state-of, Denies, Sized, OpenedBy, Lent, lent, Long, RecordedBy}
 
 -- a flag that is written out says what holds

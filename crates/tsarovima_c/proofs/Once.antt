@@ -12,9 +12,10 @@ use Rattle.types.specs.States.{State, Opened}
 use Rattle.types.specs.declared.Answer.{Answer}
 use Rattle.types.specs.declared.Answer.the-variants.{Endless}
 use Rattle.types.proofs.Fixed.{same-nodes-same-state}
-use Rattle.formats.specs.Header.{code-of}
+use Rattle.headers.specs.Header.{code-of}
 use Rattle.formats.specs.Bytes.{answer-bytes}
-use Rattle.jobs.specs.Putting.{Recorded}
+use Rattle.runs.specs.Putting.{Recorded}
+use Rattle.runs.proofs.Once as runs
 use Rattle.jobs.proofs.Once as jobs
 use Rattle.tsarovima_c.specs.Lent.{RunBy, Tables, state-of, Sized, OpenedBy, Lent, OpenedIfLong, RecordedBy}
 
@@ -80,7 +81,7 @@ pub recorded-once : {was is₁ is₂ : Lent} {bytes : List ℕ} {r₁ r₂ : ℕ
     (r₁ ≡ r₂) × (is₁ .tables ≡ is₂ .tables) × (is₁ .answer ≡ is₂ .answer) × ((getD (is₁ .answer) 0 0 ≡ 5 → ⊥) → is₁ .listing ≡ is₂ .listing)
 recorded-once premise (RecordedBy.done long sized puts) (RecordedBy.done long′ sized′ puts′) =
     let o = premise long in
-    let (state, answer, listing) = jobs.recorded-once (puts o) (puts′ o) in
+    let (state, answer, listing) = runs.recorded-once (puts o) (puts′ o) in
     (refl, same-tables _ _ state sized sized′, answer, λ not. listing (no-cycle (puts o) not))
 recorded-once premise (RecordedBy.done long sized puts) (RecordedBy.wrong-length not) = absurd (not long)
 recorded-once premise (RecordedBy.wrong-length not) (RecordedBy.done long sized puts) = absurd (not long)

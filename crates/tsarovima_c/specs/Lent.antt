@@ -7,10 +7,10 @@ use lib.ListN.{length, getD}
 use Rattle.classes.specs.Columns.{laid}
 use Rattle.types.specs.Limits.{most-nodes, most-entries, rows-long, trail-long, nodes-long, work-long, longest-listing}
 use Rattle.types.specs.States.{State, state, Opened}
-use Rattle.formats.specs.Header.{code-of}
-use Rattle.formats.specs.declared.header.Outcome.{Outcome}
+use Rattle.headers.specs.Header.{code-of}
+use Rattle.headers.specs.declared.Outcome.{Outcome}
 use Rattle.jobs.specs.Jobs.{Job}
-use Rattle.jobs.specs.Putting.{Recorded}
+use Rattle.runs.specs.Putting.{Recorded}
 
 -- a job run, its outcome as document 01's number
 abbrev pub RunBy : (job answers listing : List ℕ) → ℕ → (answers′ listing′ : List ℕ) → Type 0

@@ -4,9 +4,7 @@
 // The record calls have one premise: the tables came from tsarovima_open and these calls, and nobody else wrote to them. Every
 // length is looked at first: a wrong one is answered with 1, whatever the tables hold, and leaves all that was lent as it was.
 
-use formats::header;
-use formats::header::EIGHT;
-use jobs::run;
+use headers::EIGHT;
 use types::limits::ENTRIES;
 use types::limits::LISTING;
 use types::limits::NODE_ROWS;
@@ -33,7 +31,7 @@ const LIVE: usize = 3;
 pub extern "C" fn tsarovima_job(job: &[u8], answers: &mut [u8], listing: &mut [u16]) -> u32
     ensures { λ r. ⌜ RunBy (now (job .entry)) (now (answers .entry)) (now (listing .entry)) r (now (answers .exit)) (now (listing .exit)) ⌝ }
 {
-    header::code(jobs::job(job, answers, listing))
+    headers::code(jobs::job(job, answers, listing))
 }
 
 fn clear(table: &mut [u16])
@@ -179,7 +177,7 @@ pub extern "C" fn tsarovima_record(
     let entries = live[0];
     let links = live[1];
     let kept = live[2];
-    let then = run::run(
+    let then = runs::run(
         parent,
         rank,
         rows,

@@ -3,6 +3,5 @@ pub mod ClosedOnce
 pub mod Solving
 pub mod Finiteness
 pub mod FromTable
-pub mod Covered
 pub mod Listed
 pub mod Few

@@ -11,11 +11,11 @@ use Rattle.nodes.specs.declared.Node.{Node}
 use Rattle.types.specs.Limits.{longest-listing, most-entries, most-nodes, work-long}
 use Rattle.types.specs.States.{State, held}
 use Rattle.types.proofs.Begun.{opened-first}
-use Rattle.formats.specs.Header.{judged}
-use Rattle.formats.specs.declared.header.Outcome.{Outcome}
-use Rattle.formats.specs.declared.header.Outcome.the-variants.{Done}
-use Rattle.formats.proofs.header.Outcome.{the-type}
-use Rattle.formats.proofs.Judging.{Ready, ready}
+use Rattle.headers.specs.Header.{judged}
+use Rattle.headers.specs.declared.Outcome.{Outcome}
+use Rattle.headers.specs.declared.Outcome.the-variants.{Done}
+use Rattle.headers.proofs.Outcome.{the-type}
+use Rattle.headers.proofs.Judging.{Ready, ready}
 use Rattle.jobs.specs.Jobs.{Job}
 use Rattle.jobs.proofs.Running.{Ran, ran}
 use Rattle.jobs.proofs.Finishing.{can-be-shown, finished}

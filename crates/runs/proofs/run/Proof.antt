@@ -1,4 +1,4 @@
--- `jobs::run::run` meets its contract. The invariant: the records so far are put, and the slices are as long as they were. The measure is how many are left.
+-- `runs::run` meets its contract. The invariant: the records so far are put, and the slices are as long as they were. The measure is how many are left.
 use mathlib.Core.Path.{_≡_, refl, _∙_, subst}
 use mathlib.Core.List.{List}
 use Prim.Native.Nat.{ℕ, _+_, _*_, _-_, _≤_, zero-le}
@@ -9,9 +9,9 @@ use lib.ListN.{length}
 use Rattle.classes.specs.Columns.{laid}
 use Rattle.types.specs.Limits.{most-nodes}
 use Rattle.types.specs.States.{State, state, Opened}
-use Rattle.jobs.specs.Putting.{Recorded, Puts}
-use Rattle.jobs.proofs.run.run.Statement.{statement}
-use Rattle.jobs.proofs.run.run.Tie as tie
+use Rattle.runs.specs.Putting.{Recorded, Puts}
+use Rattle.runs.proofs.run.Statement.{statement}
+use Rattle.runs.proofs.run.Tie as tie
 
 module _ {bytes listed answers listed₁ answers₁ : List ℕ} {from : ℕ} {s s₁ : State} {o : Opened most-nodes s} {o₁ : Opened most-nodes s₁} {n : ℕ} (puts : Puts bytes from s o listed answers n s₁ o₁ listed₁ answers₁) where
   -- the loop counts with a sum

@@ -1,9 +1,9 @@
-// The records of a job, one after the other. The tables are lent in the core's order, then what is listed, the bytes and the
+// Records put one after the other, from their bytes: a job's, or one that a host lends. The tables are lent in the core's order, then what is listed, the bytes and the
 // answers.
 
 use formats::answers;
-use formats::header::EIGHT;
 use formats::listing;
+use headers::EIGHT;
 use nodes::Asks;
 use nodes::records;
 use types::Answer;
@@ -18,7 +18,7 @@ ghost use Rattle.nodes.specs.Records.{record-at};
 ghost use Rattle.types.specs.Limits.{most-nodes};
 ghost use Rattle.types.specs.States.{held, Opened};
 ghost use Rattle.formats.specs.Shown.{settled};
-ghost use Rattle.jobs.specs.Putting.{Room, Put, Recorded, Puts};
+ghost use Rattle.runs.specs.Putting.{Room, Put, Recorded, Puts};
 
 // Puts the record at `from` to the state. What is listed is after a record of kind 65 its listing, or 0, 0, 4, 4 where it has none;
 // no other record touches it.

@@ -1,8 +1,8 @@
--- `jobs::run::put_bytes` meets its contract: what its calls promise, one after the other.
-use Rattle.jobs.proofs.Leaving.{recorded}
+-- `runs::put_bytes` meets its contract: what its calls promise, one after the other.
+use Rattle.runs.proofs.Leaving.{recorded}
 use borrow.Author.Needs.{needs}
-use Rattle.jobs.proofs.run.put_bytes.Statement.{statement}
-use Rattle.jobs.proofs.run.put_bytes.Tie as tie
+use Rattle.runs.proofs.put_bytes.Statement.{statement}
+use Rattle.runs.proofs.put_bytes.Tie as tie
 
 put-requires : tie.Need-put-requires
 put-requires c κs = let start = c .before .before .before .before .before .before .before .before .before .before .before .before .before .before .before .before in (start .pre .0, (start .pre .1 .1 .0, start .pre .1 .0))

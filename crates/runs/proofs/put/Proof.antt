@@ -1,13 +1,13 @@
--- `jobs::run::put` meets its contract: what the core promises, by what the record asks.
+-- `runs::put` meets its contract: what the core promises, by what the record asks.
 use mathlib.Core.Path.{sym, ap, _∙_, subst}
 use native.Mathlib.Omega.{arith}
 use Rattle.types.specs.Limits.{most-nodes}
 use Rattle.nodes.specs.declared.Record.the-variants.{TakeBack}
 use Rattle.nodes.proofs.Asked.{Asked, asked, asked-proper, asked-take-back, asked-close, asked-malformed}
-use Rattle.jobs.proofs.Putting.{offer-is-no-closing, take-back-is-no-closing, offer-is-not-65, take-back-is-not-65, put-settled, put-closing, put-malformed, closing-room}
+use Rattle.runs.proofs.Putting.{offer-is-no-closing, take-back-is-no-closing, offer-is-not-65, take-back-is-not-65, put-settled, put-closing, put-malformed, closing-room}
 use borrow.Author.Needs.{needs}
-use Rattle.jobs.proofs.run.put.Statement.{statement}
-use Rattle.jobs.proofs.run.put.Tie as tie
+use Rattle.runs.proofs.put.Statement.{statement}
+use Rattle.runs.proofs.put.Tie as tie
 
 asked-requires : tie.Need-asked-requires
 asked-requires c κs = search needs

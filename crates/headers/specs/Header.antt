@@ -5,8 +5,8 @@ use Prim.Native.Nat.{ℕ, _+_, _*_}
 use native.Mathlib.Decide.{ℕ-discrete, decLe}
 use lib.ListN.{length, getD}
 use Rattle.types.specs.Limits.{longest-listing}
-use Rattle.formats.specs.declared.header.Outcome.{Outcome}
-use Rattle.formats.specs.declared.header.Outcome.the-variants.{Done, TooShort, BadFormat, TooMany, BadOffset, BadLength, AnswersShort, ListingShort}
+use Rattle.headers.specs.declared.Outcome.{Outcome}
+use Rattle.headers.specs.declared.Outcome.the-variants.{Done, TooShort, BadFormat, TooMany, BadOffset, BadLength, AnswersShort, ListingShort}
 
 -- a four-byte number, little-endian, at an offset
 abbrev pub four-bytes : List ℕ → ℕ → ℕ

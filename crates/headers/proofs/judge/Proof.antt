@@ -1,8 +1,8 @@
--- `formats::header::judge` meets its contract: the first test that fails decides `judged`.
-use Rattle.formats.proofs.Judging.{too-short, bad-format, too-many, bad-offset, bad-total, bad-length, answers-short, listing-short, can-be-run}
+-- `headers::judge` meets its contract: the first test that fails decides `judged`.
+use Rattle.headers.proofs.Judging.{too-short, bad-format, too-many, bad-offset, bad-total, bad-length, answers-short, listing-short, can-be-run}
 use borrow.Author.Needs.{needs}
-use Rattle.formats.proofs.header.judge.Statement.{statement}
-use Rattle.formats.proofs.header.judge.Tie as tie
+use Rattle.headers.proofs.judge.Statement.{statement}
+use Rattle.headers.proofs.judge.Tie as tie
 
 returns : tie.Need-returns
 returns c = too-short (c .before .before .args .job .now) (c .before .before .args .answers) (c .before .before .args .listing) (c .if1 .taken)

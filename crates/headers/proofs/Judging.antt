@@ -7,9 +7,9 @@ use native.Mathlib.Decide.{ℕ-discrete, decLe, decLt}
 use native.Mathlib.Omega.{arith}
 use lib.ListN.{length}
 use Rattle.types.specs.Limits.{longest-listing}
-use Rattle.formats.specs.Header.{format, count, offset, total, judged, code-of}
-use Rattle.formats.specs.declared.header.Outcome.{Outcome}
-use Rattle.formats.specs.declared.header.Outcome.the-variants.{Done, TooShort, BadFormat, TooMany, BadOffset, BadLength, AnswersShort, ListingShort}
+use Rattle.headers.specs.Header.{format, count, offset, total, judged, code-of}
+use Rattle.headers.specs.declared.Outcome.{Outcome}
+use Rattle.headers.specs.declared.Outcome.the-variants.{Done, TooShort, BadFormat, TooMany, BadOffset, BadLength, AnswersShort, ListingShort}
 
 module _ (job : List ℕ) (answers listing : ℕ) where
   pub too-short : length job < 16 → TooShort ≡ judged job answers listing

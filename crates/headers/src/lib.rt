@@ -5,7 +5,7 @@ use types::limits::LISTING;
 ghost use mathlib.Core.Path.{_≡_};
 ghost use Prim.Native.Nat.{_+_, _*_, _≤_};
 ghost use lib.ListN.{length};
-ghost use Rattle.formats.specs.Header.{four-bytes, judged, code-of};
+ghost use Rattle.headers.specs.Header.{four-bytes, judged, code-of};
 
 // Bytes of the header, and of a record and its answer.
 pub const HEADER: usize = 16;
