@@ -23,8 +23,8 @@
 //!
 //! Without the feature `std` (a default) the crate is `no_std` and allocates nothing: lend a [`Tables`] to [`Checker::over`].
 //!
-//! Kinds, codes, jobs and listings are those of Tsarovima's document 01. What its calls answer is proved, in Rattle; this crate
-//! is not, and its README says where the line runs. All unsafe code is in one file, `src/boundary.rs`.
+//! Records, answers, jobs and listings are those of Tsarovima's `docs/FORMATS.md`, byte for byte. What its calls answer is proved,
+//! in Rattle; this crate is not, and its README says where the line runs. All unsafe code is in one file, `src/boundary.rs`.
 
 #![no_std]
 #![deny(missing_docs, unsafe_code)]

@@ -1,4 +1,4 @@
-//! Document 01's limits, each number once.
+//! The limits, each number once.
 
 /// Nodes that a checker keeps at most.
 ///

@@ -22,7 +22,7 @@ pub enum Refusal {
 }
 
 impl Refusal {
-    /// Document 01's code, 1 to 4.
+    /// The code of its answer, 1 to 4.
     ///
     /// ```
     /// assert_eq!(tsarovima::Refusal::Full.code(), 3);
@@ -49,7 +49,7 @@ impl fmt::Display for Refusal {
     }
 }
 
-/// The rules that can clash, in document 01's order.
+/// The rules that can clash, in the order of their numbers.
 ///
 /// ```
 /// use tsarovima::{Checker, Node, Refusal, Rule};
@@ -93,7 +93,7 @@ impl Rule {
         Rule::DisconnectTarget,
     ];
 
-    /// Document 01's number, 1 to 7.
+    /// The rule's number, 1 to 7.
     ///
     /// ```
     /// assert_eq!(tsarovima::Rule::CaseTargets.number(), 5);
@@ -218,7 +218,7 @@ impl JobRefusal {
         JobRefusal::Listing,
     ];
 
-    /// Document 01's code, 16 to 22.
+    /// What the job call returns, 16 to 22.
     ///
     /// ```
     /// assert_eq!(tsarovima::JobRefusal::Listing.code(), 22);
