@@ -18,20 +18,18 @@ static void put(uint8_t kind, uint16_t a, uint16_t b)
            answer[4] | answer[5] << 8 | answer[6] << 16 | (unsigned)answer[7] << 24);
 }
 
-enum { UNIT = 2, INJL = 3, COMP = 7, CASE = 8, WORD = 16, TAKE_BACK = 64 };
-
 int main(void)
 {
     tsarovima_tables_open(&tables);
 
     /* The first client's program clashes: rule 1. */
-    put(WORD, 0, 0);
-    put(COMP, 0, 0);
-    put(TAKE_BACK, 0, 0);
+    put(TSAROVIMA_KIND_WORD, 0, 0);
+    put(TSAROVIMA_KIND_COMP, 0, 0);
+    put(TSAROVIMA_KIND_TAKE_BACK, 0, 0);
 
     /* The second's is sound. */
-    put(UNIT, 0, 0);
-    put(CASE, 0, 0);
+    put(TSAROVIMA_KIND_UNIT, 0, 0);
+    put(TSAROVIMA_KIND_CASE, 0, 0);
 
     uint8_t answer[8];
     if (tsarovima_tables_close(&tables, answer) == TSAROVIMA_DONE)
@@ -40,7 +38,7 @@ int main(void)
         printf("%u%c", tables.listing[i], i == 19 ? '\n' : ' ');
 
     /* A job of one record: unit. */
-    static const uint8_t job[24] = {1, 0, 0, 0, 1, 0, 0, 0, 16, 0, 0, 0, 24, 0, 0, 0, UNIT};
+    static const uint8_t job[24] = {1, 0, 0, 0, 1, 0, 0, 0, 16, 0, 0, 0, 24, 0, 0, 0, TSAROVIMA_KIND_UNIT};
     static uint8_t answers[8];
     static uint16_t listing[TSAROVIMA_LISTING];
     printf("job %u\n", (unsigned)tsarovima_job(job, sizeof job, answers, sizeof answers, listing, TSAROVIMA_LISTING));

@@ -13,7 +13,7 @@
 #include <sys/mman.h>
 #include <unistd.h>
 
-enum { RUNS = 120, RECORDS = 400, TAKE_BACK = 64, CLOSE = 65 };
+enum { RUNS = 120, RECORDS = 400, TAKE_BACK = TSAROVIMA_KIND_TAKE_BACK, CLOSE = TSAROVIMA_KIND_CLOSE };
 
 /* What a host lends: six tables, work and listing as numbers, record and answer as bytes. */
 enum { PARENT, RANK, ROWS, TRAIL, NODES, LIVE, WORK, LISTING, NUMBERS, TABLES = WORK };
@@ -188,10 +188,14 @@ static unsigned refuse_jobs(void)
     memset(job, 0, 24);
     write_header(job, 1);
     job[16] = CLOSE;
-    must(tsarovima_job(job, 15, answers, 8, listing, TSAROVIMA_LISTING) == 16, "a job of fifteen bytes run");
-    must(tsarovima_job(job, 23, answers, 8, listing, TSAROVIMA_LISTING) == 20, "a job one byte short run");
-    must(tsarovima_job(job, 24, answers, 7, listing, TSAROVIMA_LISTING) == 21, "a job run with seven bytes of answers");
-    must(tsarovima_job(job, 24, answers, 8, listing, TSAROVIMA_LISTING - 1) == 22, "a job run with a short listing");
+    must(tsarovima_job(job, 15, answers, 8, listing, TSAROVIMA_LISTING) == TSAROVIMA_REFUSAL_SHORT,
+         "a job of fifteen bytes run");
+    must(tsarovima_job(job, 23, answers, 8, listing, TSAROVIMA_LISTING) == TSAROVIMA_REFUSAL_LENGTH,
+         "a job one byte short run");
+    must(tsarovima_job(job, 24, answers, 7, listing, TSAROVIMA_LISTING) == TSAROVIMA_REFUSAL_ANSWERS,
+         "a job run with seven bytes of answers");
+    must(tsarovima_job(job, 24, answers, 8, listing, TSAROVIMA_LISTING - 1) == TSAROVIMA_REFUSAL_LISTING,
+         "a job run with a short listing");
     return 4;
 }
 
