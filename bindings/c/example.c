@@ -14,8 +14,14 @@ static void put(uint8_t kind, uint16_t a, uint16_t b)
     uint8_t answer[8];
     if (tsarovima_tables_record(&tables, record, answer) != TSAROVIMA_DONE)
         return;
-    printf("kind %u: code %u, first %u, second %u\n", kind, answer[0] | answer[1] << 8, answer[2] | answer[3] << 8,
+    unsigned code = answer[0] | answer[1] << 8, first = answer[2] | answer[3] << 8;
+    printf("kind %u: code %u, first %u, second %u\n", kind, code, first,
            answer[4] | answer[5] << 8 | answer[6] << 16 | (unsigned)answer[7] << 24);
+    if (code == TSAROVIMA_CODE_CLASH) {
+        uint8_t text[TSAROVIMA_RULE_TEXT];
+        size_t length = tsarovima_rule_text((uint16_t)first, text, sizeof text);
+        printf("    %.*s\n", (int)length, (const char *)text);
+    }
 }
 
 int main(void)

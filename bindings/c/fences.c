@@ -1,7 +1,7 @@
 /* Every buffer of every call lies against a page that may not be touched: at its end in the first round, at its beginning in the
  * second. A call that reads or writes one number outside a buffer stops this program. Random records go to the record calls and, as
  * jobs, to the job call, and both must give the same answers and listings. In a third round each length in turn is wrong by one,
- * and what is lent may not be touched at all.
+ * and what is lent may not be touched at all. Each rule's text is asked for with every room up to the longest.
  *
  *     cc -I bindings/c bindings/c/fences.c target/staticlib/libtsarovima_c.a -o fences && ./fences */
 
@@ -199,6 +199,28 @@ static unsigned refuse_jobs(void)
     return 4;
 }
 
+/* How many bytes of text were written: to the end of a buffer that is long enough, and none to one that is shorter. */
+static unsigned long write_texts(void)
+{
+    unsigned long written = 0;
+    for (unsigned rule = 0; rule < 10; rule++) {
+        uint8_t whole[TSAROVIMA_RULE_TEXT];
+        size_t long_as = tsarovima_rule_text((uint16_t)rule, whole, sizeof whole);
+        must((long_as == 0) == (rule < 1 || rule > 7), "a rule has no text, or another number has one");
+        for (size_t room = 0; room <= TSAROVIMA_RULE_TEXT; room++) {
+            uint8_t *text = room < long_as ? untouchable(room + 1) : fenced(room, 1);
+            must(tsarovima_rule_text((uint16_t)rule, text, room) == long_as, "a text of another length");
+            if (room < long_as)
+                continue;
+            must(memcmp(text, whole, long_as) == 0, "another text");
+            for (size_t past = long_as; past < room; past++)
+                must(text[past] == 0xA5, "a byte written past the text");
+            written += long_as;
+        }
+    }
+    return written;
+}
+
 int main(void)
 {
     unsigned long put_in_all = run_all(1);
@@ -206,5 +228,6 @@ int main(void)
     printf("fences: %lu records put and run as jobs, none outside its buffers\n", put_in_all);
     unsigned refused = refuse_lengths() + refuse_jobs();
     printf("fences: %u calls with a wrong length refused, nothing touched\n", refused);
+    printf("fences: %lu bytes of rules' texts written, none outside its buffer\n", write_texts());
     return 0;
 }

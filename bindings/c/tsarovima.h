@@ -1,4 +1,4 @@
-/* Tsarovima for C: the job call, and the record calls for a host that keeps one table for many clients.
+/* Tsarovima for C: the job call, the record calls for a host that keeps one table for many clients, and the texts of the rules.
  *
  * The functions are in libtsarovima_c.a, which `rt staticlib tsarovima_c` proves and writes (x86-64):
  *
@@ -80,6 +80,15 @@ enum tsarovima_refusal {
  * Any bytes may be lent. It takes some 276 KiB of stack (measured: docs/SPEED.md). */
 uint32_t tsarovima_job(const uint8_t *job, size_t job_len, uint8_t *answers, size_t answers_len, uint16_t *listing,
                        size_t listing_len);
+
+/* The longest text of a rule, in bytes. */
+#define TSAROVIMA_RULE_TEXT 47
+
+/* The text of a rule: what a node needs, in words, for the number that is the first of an answer with TSAROVIMA_CODE_CLASH.
+ *
+ * Returns how many bytes the text has: 0 if there is no such rule, which may be asked for too. Writes them into the first of `text`
+ * if it has room for all of them, else nothing. They are UTF-8, and no zero follows. Bytes past them are as they were. */
+size_t tsarovima_rule_text(uint16_t rule, uint8_t *text, size_t text_len);
 
 /* ---- record calls ----
  *

@@ -49,10 +49,10 @@ mod text;
 struct Readme;
 
 pub use answer::Answer;
-pub use boundary::{job, Tables};
+pub use boundary::{job, rule_text, Tables};
 pub use checker::{Checker, Kept};
-pub use limits::{LISTING_NUMBERS, MOST_ANSWER_BYTES, MOST_JOB_BYTES, MOST_NODES, MOST_RECORDS, MOST_WORD};
+pub use limits::{LISTING_NUMBERS, MOST_ANSWER_BYTES, MOST_JOB_BYTES, MOST_NODES, MOST_RECORDS, MOST_WORD, RULE_TEXT_BYTES};
 pub use listing::{Arrow, Arrows, Listing, Shape, Type, Types};
 pub use node::{job_header, Node, Record};
-pub use refusal::{Cycle, JobRefusal, MoreThanKept, Refusal, Rule};
+pub use refusal::{Cycle, JobRefusal, MoreThanKept, Refusal, Rule, RuleText};
 pub use text::{Definition, MOST_PARTS};

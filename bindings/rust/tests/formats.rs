@@ -1,6 +1,6 @@
 //! Runs every example of docs/FORMATS.md: its blocks of indented lines, each a word and what belongs to it.
 
-use tsarovima::{job, job_header, Answer, Checker, Node, Record, LISTING_NUMBERS, MOST_ANSWER_BYTES};
+use tsarovima::{job, job_header, rule_text, Answer, Checker, Node, Record, Rule, LISTING_NUMBERS, MOST_ANSWER_BYTES};
 
 const PAGE: &str = include_str!("../../../docs/FORMATS.md");
 
@@ -24,7 +24,7 @@ impl Line {
 
     /// The decimal numbers among the words.
     fn numbers(&self) -> Vec<u32> {
-        let words = self.rest.split(|c: char| c == ' ' || c == ',');
+        let words = self.rest.split([' ', ',']);
         words.filter_map(|word| word.parse().ok()).collect()
     }
 
@@ -142,18 +142,34 @@ fn put_records(block: &[Line]) -> usize {
     records.len()
 }
 
+/// A block of rules' texts, each asked for with a buffer of some length.
+fn write_texts(block: &[Line]) -> usize {
+    let texts: Vec<usize> = (0..block.len()).filter(|at| block[*at].word == "rule").collect();
+    for at in &texts {
+        let (rule, lent, returns) = (&block[*at], &block[at + 1], &block[at + 2]);
+        assert_eq!((lent.word.as_str(), returns.word.as_str()), ("lent", "returns"));
+        let mut text = vec![BYTE; lent.numbers()[0] as usize];
+        assert_eq!(rule_text(rule.numbers()[0] as u16, &mut text), returns.numbers()[0] as usize);
+        let written = block.get(at + 3).filter(|line| line.word == "text").map_or(vec![], Line::bytes);
+        assert_eq!(text[..written.len()], written);
+        assert!(text[written.len()..].iter().all(|byte| *byte == BYTE));
+    }
+    texts.len()
+}
+
 #[test]
 fn examples_are_answered_as_the_page_says() {
-    let (mut jobs, mut records) = (0, 0);
+    let (mut jobs, mut records, mut texts) = (0, 0, 0);
     for block in blocks() {
         match block[0].word.as_str() {
             "job" if block[0].rest == "0" => continue, // the program's report
             "job" => jobs += run_jobs(&block),
             "record" | "kept" => records += put_records(&block),
+            "rule" => texts += write_texts(&block),
             other => panic!("no such example: {}", other),
         }
     }
-    assert_eq!((jobs, records), (10, 1035));
+    assert_eq!((jobs, records, texts), (10, 1035, 3));
 }
 
 #[test]
@@ -168,4 +184,12 @@ fn records_are_what_the_page_says() {
     ];
     let block = blocks().remove(0);
     assert!(block.iter().map(Line::eight).eq(records.iter().map(|record| record.bytes())));
+}
+
+#[test]
+fn texts_are_those_of_the_table() {
+    for rule in Rule::ALL {
+        let line = format!("| {} | {} | `{}` |", rule.number(), rule.text().len(), rule);
+        assert!(PAGE.lines().any(|each| each == line), "{}", line);
+    }
 }

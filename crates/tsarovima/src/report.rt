@@ -52,11 +52,9 @@ fn kind(record: &[u8]) -> u8 {
 
 // The text of a rule, byte for byte, by way of a lent array.
 fn rule_by(page: &mut [u8], place: Place, rule: u16, space: &mut [u8]) -> Place {
-    if space.len() < LONGEST {
-        return place;
-    }
     match text::write(rule, space) {
         Text::Bytes(n) => page::text(page, place, page::front(space, n)),
+        Text::NoRoom(_) => place,
         Text::NoRule => place,
     }
 }
