@@ -14,24 +14,28 @@ static void put(uint8_t kind, uint16_t a, uint16_t b)
     uint8_t answer[8];
     if (tsarovima_tables_record(&tables, record, answer) != TSAROVIMA_DONE)
         return;
-    printf("kind %u: code %u, first %u, second %u\n", kind, answer[0] | answer[1] << 8, answer[2] | answer[3] << 8,
+    unsigned code = answer[0] | answer[1] << 8, first = answer[2] | answer[3] << 8;
+    printf("kind %u: code %u, first %u, second %u\n", kind, code, first,
            answer[4] | answer[5] << 8 | answer[6] << 16 | (unsigned)answer[7] << 24);
+    if (code == TSAROVIMA_CODE_CLASH) {
+        uint8_t text[TSAROVIMA_RULE_TEXT];
+        size_t length = tsarovima_rule_text((uint16_t)first, text, sizeof text);
+        printf("    %.*s\n", (int)length, (const char *)text);
+    }
 }
-
-enum { UNIT = 2, INJL = 3, COMP = 7, CASE = 8, WORD = 16, TAKE_BACK = 64 };
 
 int main(void)
 {
     tsarovima_tables_open(&tables);
 
     /* The first client's program clashes: rule 1. */
-    put(WORD, 0, 0);
-    put(COMP, 0, 0);
-    put(TAKE_BACK, 0, 0);
+    put(TSAROVIMA_KIND_WORD, 0, 0);
+    put(TSAROVIMA_KIND_COMP, 0, 0);
+    put(TSAROVIMA_KIND_TAKE_BACK, 0, 0);
 
     /* The second's is sound. */
-    put(UNIT, 0, 0);
-    put(CASE, 0, 0);
+    put(TSAROVIMA_KIND_UNIT, 0, 0);
+    put(TSAROVIMA_KIND_CASE, 0, 0);
 
     uint8_t answer[8];
     if (tsarovima_tables_close(&tables, answer) == TSAROVIMA_DONE)
@@ -40,7 +44,7 @@ int main(void)
         printf("%u%c", tables.listing[i], i == 19 ? '\n' : ' ');
 
     /* A job of one record: unit. */
-    static const uint8_t job[24] = {1, 0, 0, 0, 1, 0, 0, 0, 16, 0, 0, 0, 24, 0, 0, 0, UNIT};
+    static const uint8_t job[24] = {1, 0, 0, 0, 1, 0, 0, 0, 16, 0, 0, 0, 24, 0, 0, 0, TSAROVIMA_KIND_UNIT};
     static uint8_t answers[8];
     static uint16_t listing[TSAROVIMA_LISTING];
     printf("job %u\n", (unsigned)tsarovima_job(job, sizeof job, answers, sizeof answers, listing, TSAROVIMA_LISTING));

@@ -1,7 +1,7 @@
 /* Every buffer of every call lies against a page that may not be touched: at its end in the first round, at its beginning in the
  * second. A call that reads or writes one number outside a buffer stops this program. Random records go to the record calls and, as
  * jobs, to the job call, and both must give the same answers and listings. In a third round each length in turn is wrong by one,
- * and what is lent may not be touched at all.
+ * and what is lent may not be touched at all. Each rule's text is asked for with every room up to the longest.
  *
  *     cc -I bindings/c bindings/c/fences.c target/staticlib/libtsarovima_c.a -o fences && ./fences */
 
@@ -13,7 +13,7 @@
 #include <sys/mman.h>
 #include <unistd.h>
 
-enum { RUNS = 120, RECORDS = 400, TAKE_BACK = 64, CLOSE = 65 };
+enum { RUNS = 120, RECORDS = 400, TAKE_BACK = TSAROVIMA_KIND_TAKE_BACK, CLOSE = TSAROVIMA_KIND_CLOSE };
 
 /* What a host lends: six tables, work and listing as numbers, record and answer as bytes. */
 enum { PARENT, RANK, ROWS, TRAIL, NODES, LIVE, WORK, LISTING, NUMBERS, TABLES = WORK };
@@ -188,11 +188,37 @@ static unsigned refuse_jobs(void)
     memset(job, 0, 24);
     write_header(job, 1);
     job[16] = CLOSE;
-    must(tsarovima_job(job, 15, answers, 8, listing, TSAROVIMA_LISTING) == 16, "a job of fifteen bytes run");
-    must(tsarovima_job(job, 23, answers, 8, listing, TSAROVIMA_LISTING) == 20, "a job one byte short run");
-    must(tsarovima_job(job, 24, answers, 7, listing, TSAROVIMA_LISTING) == 21, "a job run with seven bytes of answers");
-    must(tsarovima_job(job, 24, answers, 8, listing, TSAROVIMA_LISTING - 1) == 22, "a job run with a short listing");
+    must(tsarovima_job(job, 15, answers, 8, listing, TSAROVIMA_LISTING) == TSAROVIMA_REFUSAL_SHORT,
+         "a job of fifteen bytes run");
+    must(tsarovima_job(job, 23, answers, 8, listing, TSAROVIMA_LISTING) == TSAROVIMA_REFUSAL_LENGTH,
+         "a job one byte short run");
+    must(tsarovima_job(job, 24, answers, 7, listing, TSAROVIMA_LISTING) == TSAROVIMA_REFUSAL_ANSWERS,
+         "a job run with seven bytes of answers");
+    must(tsarovima_job(job, 24, answers, 8, listing, TSAROVIMA_LISTING - 1) == TSAROVIMA_REFUSAL_LISTING,
+         "a job run with a short listing");
     return 4;
+}
+
+/* How many bytes of text were written: to the end of a buffer that is long enough, and none to one that is shorter. */
+static unsigned long write_texts(void)
+{
+    unsigned long written = 0;
+    for (unsigned rule = 0; rule < 10; rule++) {
+        uint8_t whole[TSAROVIMA_RULE_TEXT];
+        size_t long_as = tsarovima_rule_text((uint16_t)rule, whole, sizeof whole);
+        must((long_as == 0) == (rule < 1 || rule > 7), "a rule has no text, or another number has one");
+        for (size_t room = 0; room <= TSAROVIMA_RULE_TEXT; room++) {
+            uint8_t *text = room < long_as ? untouchable(room + 1) : fenced(room, 1);
+            must(tsarovima_rule_text((uint16_t)rule, text, room) == long_as, "a text of another length");
+            if (room < long_as)
+                continue;
+            must(memcmp(text, whole, long_as) == 0, "another text");
+            for (size_t past = long_as; past < room; past++)
+                must(text[past] == 0xA5, "a byte written past the text");
+            written += long_as;
+        }
+    }
+    return written;
 }
 
 int main(void)
@@ -202,5 +228,6 @@ int main(void)
     printf("fences: %lu records put and run as jobs, none outside its buffers\n", put_in_all);
     unsigned refused = refuse_lengths() + refuse_jobs();
     printf("fences: %u calls with a wrong length refused, nothing touched\n", refused);
+    printf("fences: %lu bytes of rules' texts written, none outside its buffer\n", write_texts());
     return 0;
 }

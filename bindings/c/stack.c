@@ -9,7 +9,9 @@
 #include <string.h>
 #include <ucontext.h>
 
-enum { STACK = 1 << 20, PAINT = 0xA5, RECORDS = 20000, PAIR = 11, WORD = 16, TAKE_BACK = 64, CLOSE = 65 };
+enum { STACK = 1 << 20, PAINT = 0xA5, RECORDS = 20000 };
+enum { PAIR = TSAROVIMA_KIND_PAIR, WORD = TSAROVIMA_KIND_WORD };
+enum { TAKE_BACK = TSAROVIMA_KIND_TAKE_BACK, CLOSE = TSAROVIMA_KIND_CLOSE };
 
 static unsigned char stack[STACK];
 static tsarovima_tables tables;

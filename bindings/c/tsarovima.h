@@ -1,13 +1,16 @@
-/* Tsarovima for C: the job call, and the record calls for a host that keeps one table for many clients.
+/* Tsarovima for C: the job call, the record calls for a host that keeps one table for many clients, and the texts of the rules.
  *
- * The functions are in libtsarovima_c.a, which `rt staticlib tsarovima_c` proves and writes (x86-64). They allocate nothing, keep
- * nothing between calls, and call nothing but memcpy and memset.
+ * The functions are in libtsarovima_c.a, which `rt staticlib tsarovima_c` proves and writes (x86-64):
+ *
+ *     cc -I bindings/c host.c target/staticlib/libtsarovima_c.a -o host
+ *
+ * They allocate nothing, keep nothing between calls, and call nothing but memcpy and memset.
  *
  * A pointer and the length after it are one buffer: the length is in elements, not bytes. What no call can look at is for the host
  * to see to: the memory is its own, as long as it says; the pointer is not null, also where the length is 0; a buffer of 16-bit
  * numbers is aligned to 2 bytes (bytes may lie anywhere); no two buffers of a call overlap.
  *
- * Formats, kinds, codes and the listing are those of document 01, "State and records" and "Job and listing". */
+ * docs/FORMATS.md has the bytes: records, answers, jobs and the listing, with an example of each. */
 
 #ifndef TSAROVIMA_H
 #define TSAROVIMA_H
@@ -19,6 +22,50 @@
 extern "C" {
 #endif
 
+/* The first byte of a record: kinds 1 to 16 offer a node. */
+enum tsarovima_kind {
+    TSAROVIMA_KIND_IDEN = 1,
+    TSAROVIMA_KIND_UNIT = 2,
+    TSAROVIMA_KIND_INJL = 3,
+    TSAROVIMA_KIND_INJR = 4,
+    TSAROVIMA_KIND_TAKE = 5,
+    TSAROVIMA_KIND_DROP = 6,
+    TSAROVIMA_KIND_COMP = 7,
+    TSAROVIMA_KIND_CASE = 8,
+    TSAROVIMA_KIND_ASSERTL = 9,
+    TSAROVIMA_KIND_ASSERTR = 10,
+    TSAROVIMA_KIND_PAIR = 11,
+    TSAROVIMA_KIND_DISCONNECT = 12,
+    TSAROVIMA_KIND_DISCONNECT_ONE = 13, /* without the second child */
+    TSAROVIMA_KIND_WITNESS = 14,
+    TSAROVIMA_KIND_FAIL = 15,
+    TSAROVIMA_KIND_WORD = 16,
+    TSAROVIMA_KIND_TAKE_BACK = 64,
+    TSAROVIMA_KIND_CLOSE = 65
+};
+
+/* The first two bytes of an answer. */
+enum tsarovima_code {
+    TSAROVIMA_CODE_DONE = 0, /* kept, taken back or closed */
+    TSAROVIMA_CODE_MALFORMED = 1,
+    TSAROVIMA_CODE_NO_CHILD = 2,
+    TSAROVIMA_CODE_FULL = 3,
+    TSAROVIMA_CODE_CLASH = 4,
+    TSAROVIMA_CODE_CYCLE = 5,
+    TSAROVIMA_CODE_TOO_FEW = 6 /* a take-back to more nodes than are kept */
+};
+
+/* What the job call returns if it is not 0, in the order in which they are looked for. */
+enum tsarovima_refusal {
+    TSAROVIMA_REFUSAL_SHORT = 16,   /* under 16 bytes */
+    TSAROVIMA_REFUSAL_FORMAT = 17,  /* the format is not 1 */
+    TSAROVIMA_REFUSAL_COUNT = 18,   /* more than 4,096 records */
+    TSAROVIMA_REFUSAL_OFFSET = 19,  /* the first record is not at 16 */
+    TSAROVIMA_REFUSAL_LENGTH = 20,  /* the length field, or the length lent, is not 16 + 8 for each record */
+    TSAROVIMA_REFUSAL_ANSWERS = 21, /* under 8 bytes of answers for each record */
+    TSAROVIMA_REFUSAL_LISTING = 22  /* a listing of under TSAROVIMA_LISTING numbers */
+};
+
 /* The longest job, its answers, and the listing buffer that every job needs (in numbers). */
 #define TSAROVIMA_JOB_MOST 32784
 #define TSAROVIMA_ANSWERS_MOST 32768
@@ -26,13 +73,22 @@ extern "C" {
 
 /* Runs a job from a fresh state.
  *
- * Reads job[0 .. job_len). Returns 0, or a refusal 16 to 22, after which neither buffer was written to.
+ * Reads job[0 .. job_len). Returns 0, or a refusal (enum tsarovima_refusal), after which neither buffer was written to.
  * After 0 it has written eight bytes of answers for each record, and the listing of the last record of kind 65 (0, 0, 4, 4 if that
  * was refused, or if there was none). Bytes and numbers past these are as they were.
  *
- * Any bytes may be lent. It takes some 276 KiB of stack (measured: see the README). */
+ * Any bytes may be lent. It takes some 276 KiB of stack (measured: docs/SPEED.md). */
 uint32_t tsarovima_job(const uint8_t *job, size_t job_len, uint8_t *answers, size_t answers_len, uint16_t *listing,
                        size_t listing_len);
+
+/* The longest text of a rule, in bytes. */
+#define TSAROVIMA_RULE_TEXT 47
+
+/* The text of a rule: what a node needs, in words, for the number that is the first of an answer with TSAROVIMA_CODE_CLASH.
+ *
+ * Returns how many bytes the text has: 0 if there is no such rule, which may be asked for too. Writes them into the first of `text`
+ * if it has room for all of them, else nothing. They are UTF-8, and no zero follows. Bytes past them are as they were. */
+size_t tsarovima_rule_text(uint16_t rule, uint8_t *text, size_t text_len);
 
 /* ---- record calls ----
  *

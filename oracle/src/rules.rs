@@ -20,12 +20,21 @@ pub const TEXTS: [&str; 7] = [
 /// If the error is of another sort or its hint is none of the seven; the
 /// oracle then reports a panic, for document 01 has no answer to give.
 pub fn broken(error: &Error) -> u16 {
-    let hint = match error {
-        Error::Bind { hint, .. } | Error::CompleteTypeMismatch { hint, .. } => *hint,
-        other => panic!("an offer met an error that is no clash: {other}"),
-    };
+    let hint = hint(error);
     match TEXTS.iter().position(|text| *text == hint) {
         Some(index) => index as u16 + 1,
         None => panic!("a hint that is no rule's text: {hint}"),
+    }
+}
+
+/// The error's hint.
+///
+/// # Panics
+///
+/// If the error is of another sort.
+pub fn hint(error: &Error) -> &'static str {
+    match error {
+        Error::Bind { hint, .. } | Error::CompleteTypeMismatch { hint, .. } => hint,
+        other => panic!("an offer met an error that is no clash: {other}"),
     }
 }

@@ -9,19 +9,20 @@ use std::{env, fs, io, process};
 use tsarovima::{job, Answer, Listing, Rule, LISTING_NUMBERS, MOST_ANSWER_BYTES};
 
 /// What became of a record, in words.
-fn words(kind: u8, answer: Answer) -> &'static str {
-    match (answer.code, kind) {
+fn words(kind: u8, answer: Answer) -> String {
+    let words = match (answer.code, kind) {
         (0, 64) => "taken back",
         (0, 65) => "closed",
         (0, _) => "kept",
         (1, _) => "malformed",
         (2, _) => "no such child",
         (3, _) => "full",
-        (4, _) => Rule::numbered(answer.first).map_or("", Rule::text),
+        (4, _) => return Rule::numbered(answer.first).map_or_else(String::new, |rule| rule.to_string()),
         (5, _) => "endless",
         (6, _) => "too few kept",
         _ => "",
-    }
+    };
+    words.into()
 }
 
 fn one_step(of: tsarovima::Type<'_>) -> String {

@@ -1,6 +1,6 @@
 //! The eight bytes that answer a record.
 
-/// A record's answer: a code and two numbers, as document 01's table of codes has them.
+/// A record's answer: a code and two numbers, as the table of codes in `docs/FORMATS.md` has them.
 ///
 /// [`Checker::offer`](crate::Checker::offer) and its like read them for you; this is for the answers of a [`job`](crate::job).
 ///

@@ -1,4 +1,4 @@
-//! The boundary: the four functions of `libtsarovima_c.a`, and all of this crate's unsafe code.
+//! The boundary: the five functions of `libtsarovima_c.a`, and all of this crate's unsafe code.
 //!
 //! Nothing compares these declarations with the Rattle source. So they are few, in one place and in the order of `tsarovima.h`,
 //! and the tests beside them call each with lengths at the limits.
@@ -22,6 +22,8 @@ extern "C" {
         answers: *mut u8, answers_len: usize,
         listing: *mut u16, listing_len: usize,
     ) -> u32;
+
+    fn tsarovima_rule_text(rule: u16, text: *mut u8, text_len: usize) -> usize;
 
     fn tsarovima_open(
         parent: *mut u16, parent_len: usize,
@@ -100,6 +102,22 @@ pub fn job(job: &[u8], answers: &mut [u8], listing: &mut [u16]) -> Result<(), Jo
         return Ok(());
     }
     Err(JobRefusal::coded(code).expect(OTHER_LIMITS))
+}
+
+/// Writes the text of a rule at the front of a buffer, and gives how many bytes it has: 0 if there is no rule of that number. A
+/// buffer that has no room for all of them is left as it was; [`RULE_TEXT_BYTES`](crate::RULE_TEXT_BYTES) are enough for every
+/// rule. [`Rule::text`](crate::Rule::text) has them as a `str`.
+///
+/// ```
+/// let mut text = [0; 50];
+/// let length = tsarovima::rule_text(1, &mut text);
+/// assert_eq!(&text[..length], b"comp combinator: left target = right source");
+/// assert_eq!(tsarovima::rule_text(8, &mut text), 0);
+/// assert_eq!(tsarovima::rule_text(1, &mut []), 43);
+/// ```
+pub fn rule_text(rule: u16, text: &mut [u8]) -> usize {
+    // SAFETY: the call has no premise but that pointer and length are one buffer: they are one exclusive slice.
+    unsafe { tsarovima_rule_text(rule, text.as_mut_ptr(), text.len()) }
 }
 
 /// Memory for one [`Checker`](crate::Checker): 281,646 bytes, for a host without a heap. What it holds does not matter.

@@ -201,7 +201,7 @@ impl fmt::Debug for Checker<'_> {
     }
 }
 
-/// An answer that document 01 does not have for the record: better to stop than to take it for a yes.
+/// An answer that no record of its kind is given: better to stop than to take it for a yes.
 fn no_such(answer: Answer) -> ! {
     panic!("libtsarovima_c.a gave an answer that this binding does not know: {:?}", answer)
 }

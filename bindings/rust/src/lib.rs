@@ -23,8 +23,8 @@
 //!
 //! Without the feature `std` (a default) the crate is `no_std` and allocates nothing: lend a [`Tables`] to [`Checker::over`].
 //!
-//! Kinds, codes, jobs and listings are those of Tsarovima's document 01. What its calls answer is proved, in Rattle; this crate
-//! is not, and its README says where the line runs. All unsafe code is in one file, `src/boundary.rs`.
+//! Records, answers, jobs and listings are those of Tsarovima's `docs/FORMATS.md`, byte for byte. What its calls answer is proved,
+//! in Rattle; this crate is not, and its README says where the line runs. All unsafe code is in one file, `src/boundary.rs`.
 
 #![no_std]
 #![deny(missing_docs, unsafe_code)]
@@ -49,10 +49,10 @@ mod text;
 struct Readme;
 
 pub use answer::Answer;
-pub use boundary::{job, Tables};
+pub use boundary::{job, rule_text, Tables};
 pub use checker::{Checker, Kept};
-pub use limits::{LISTING_NUMBERS, MOST_ANSWER_BYTES, MOST_JOB_BYTES, MOST_NODES, MOST_RECORDS, MOST_WORD};
+pub use limits::{LISTING_NUMBERS, MOST_ANSWER_BYTES, MOST_JOB_BYTES, MOST_NODES, MOST_RECORDS, MOST_WORD, RULE_TEXT_BYTES};
 pub use listing::{Arrow, Arrows, Listing, Shape, Type, Types};
 pub use node::{job_header, Node, Record};
-pub use refusal::{Cycle, JobRefusal, MoreThanKept, Refusal, Rule};
+pub use refusal::{Cycle, JobRefusal, MoreThanKept, Refusal, Rule, RuleText};
 pub use text::{Definition, MOST_PARTS};

@@ -1,4 +1,4 @@
-//! Document 01's limits, each number once.
+//! The limits, each number once.
 
 /// Nodes that a checker keeps at most.
 ///
@@ -54,6 +54,14 @@ pub const MOST_ANSWER_BYTES: usize = 8 * MOST_RECORDS;
 /// assert_eq!(job(&job_header(0), &mut [], &mut short), Err(JobRefusal::Listing));
 /// ```
 pub const LISTING_NUMBERS: usize = 4 + 3 * ENTRIES + 2 * MOST_NODES;
+
+/// Bytes of the longest text of a rule.
+///
+/// ```
+/// use tsarovima::{Rule, RULE_TEXT_BYTES};
+/// assert_eq!(Rule::ALL.iter().map(|rule| rule.text().len()).max(), Some(RULE_TEXT_BYTES));
+/// ```
+pub const RULE_TEXT_BYTES: usize = 47;
 
 /// Entries of a class table: 33 that stand, and eight for each node.
 pub(crate) const ENTRIES: usize = 33 + 8 * MOST_NODES;

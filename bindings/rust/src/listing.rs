@@ -1,7 +1,7 @@
 //! What a closing found: types, each once, and for each node the number of its source and of its target.
 //!
-//! The numbers are document 01's listing: nodes n, types t, offset of types, offset of arrows, t triples (0 unit, 1 sum, 2 product;
-//! left; right), n pairs. A type's parts have lower numbers, so a walk down ends.
+//! The numbers are the listing of `docs/FORMATS.md`: nodes n, types t, offset of types, offset of arrows, t triples (0 unit,
+//! 1 sum, 2 product; left; right), n pairs. A type's parts have lower numbers, so a walk down ends.
 
 use core::iter::FusedIterator;
 
@@ -124,7 +124,7 @@ impl<'a> Listing<'a> {
         }
     }
 
-    /// The listing's numbers, as document 01 has them, and none past the end.
+    /// The listing's numbers, as `docs/FORMATS.md` has them, and none past the end.
     ///
     /// ```
     /// let mut checker = tsarovima::Checker::new();

@@ -80,7 +80,7 @@ impl Record {
 }
 
 impl Node {
-    /// Document 01's kind, and the two fields.
+    /// The kind, and the two fields.
     fn numbers(self) -> (u8, u16, u16) {
         match self {
             Node::Iden => (1, 0, 0),

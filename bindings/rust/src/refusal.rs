@@ -1,6 +1,9 @@
 //! Why a call said no. After any refusal the checker answers as before.
 
+use crate::limits::RULE_TEXT_BYTES;
+use crate::rule_text;
 use core::fmt;
+use core::ops::Deref;
 
 /// Why an offer was refused.
 ///
@@ -22,7 +25,7 @@ pub enum Refusal {
 }
 
 impl Refusal {
-    /// Document 01's code, 1 to 4.
+    /// The code of its answer, 1 to 4.
     ///
     /// ```
     /// assert_eq!(tsarovima::Refusal::Full.code(), 3);
@@ -49,7 +52,7 @@ impl fmt::Display for Refusal {
     }
 }
 
-/// The rules that can clash, in document 01's order.
+/// The rules that can clash, in the order of their numbers.
 ///
 /// ```
 /// use tsarovima::{Checker, Node, Refusal, Rule};
@@ -93,7 +96,7 @@ impl Rule {
         Rule::DisconnectTarget,
     ];
 
-    /// Document 01's number, 1 to 7.
+    /// The rule's number, 1 to 7.
     ///
     /// ```
     /// assert_eq!(tsarovima::Rule::CaseTargets.number(), 5);
@@ -113,27 +116,66 @@ impl Rule {
         Rule::ALL.iter().copied().find(|rule| rule.number() == number)
     }
 
-    /// The rule in words, byte for byte as document 01 has it.
+    /// The rule in words, as the library writes it: byte for byte the hint of simplicity-lang.
     ///
     /// ```
-    /// assert_eq!(tsarovima::Rule::CaseLeftSource.text(), "case combinator: left source = A × C");
+    /// assert_eq!(tsarovima::Rule::CaseLeftSource.text().as_str(), "case combinator: left source = A × C");
     /// ```
-    pub fn text(self) -> &'static str {
-        match self {
-            Rule::CompMiddle => "comp combinator: left target = right source",
-            Rule::PairSources => "pair combinator: left source = right source",
-            Rule::CaseLeftSource => "case combinator: left source = A × C",
-            Rule::CaseRightSource => "case combinator: left source = B × C",
-            Rule::CaseTargets => "case combinator: left target = right target",
-            Rule::DisconnectSource => "disconnect combinator: left source = 2^256 × A",
-            Rule::DisconnectTarget => "disconnect combinator: left target = B × C",
-        }
+    pub fn text(self) -> RuleText {
+        let mut bytes = [0; RULE_TEXT_BYTES];
+        let length = rule_text(self.number(), &mut bytes);
+        RuleText { bytes, length }
+    }
+}
+
+/// What [`Rule::text`] gives: a `str` by value, for the library writes it into a buffer.
+///
+/// ```
+/// let text = tsarovima::Rule::PairSources.text();
+/// assert!(text.starts_with("pair combinator"));
+/// assert_eq!(text.to_string(), "pair combinator: left source = right source");
+/// ```
+#[derive(Clone, Copy, PartialEq, Eq, Hash)]
+pub struct RuleText {
+    bytes: [u8; RULE_TEXT_BYTES],
+    length: usize,
+}
+
+impl RuleText {
+    /// The words.
+    ///
+    /// ```
+    /// assert_eq!(tsarovima::Rule::DisconnectSource.text().as_str().len(), tsarovima::RULE_TEXT_BYTES);
+    /// ```
+    pub fn as_str(&self) -> &str {
+        // The seven texts are proved byte for byte, and are UTF-8.
+        core::str::from_utf8(&self.bytes[..self.length]).expect("libtsarovima_c.a wrote a text that is no UTF-8")
+    }
+}
+
+impl Deref for RuleText {
+    type Target = str;
+
+    fn deref(&self) -> &str {
+        self.as_str()
+    }
+}
+
+impl fmt::Display for RuleText {
+    fn fmt(&self, f: &mut fmt::Formatter<'_>) -> fmt::Result {
+        f.write_str(self.as_str())
+    }
+}
+
+impl fmt::Debug for RuleText {
+    fn fmt(&self, f: &mut fmt::Formatter<'_>) -> fmt::Result {
+        fmt::Debug::fmt(self.as_str(), f)
     }
 }
 
 impl fmt::Display for Rule {
     fn fmt(&self, f: &mut fmt::Formatter<'_>) -> fmt::Result {
-        f.write_str(self.text())
+        self.text().fmt(f)
     }
 }
 
@@ -218,7 +260,7 @@ impl JobRefusal {
         JobRefusal::Listing,
     ];
 
-    /// Document 01's code, 16 to 22.
+    /// What the job call returns, 16 to 22.
     ///
     /// ```
     /// assert_eq!(tsarovima::JobRefusal::Listing.code(), 22);

@@ -53,11 +53,9 @@ fn kind(record: &[u8]) -> u8 {
 
 // The text of a rule, byte for byte, by way of a lent array.
 fn rule_by(page: &mut [u8], place: usize, rule: u16, space: &mut [u8]) -> usize {
-    if space.len() < LONGEST {
-        return place;
-    }
     match text::write(rule, space) {
         Text::Bytes(n) => page::text(page, place, page::front(space, n)),
+        Text::NoRoom(_) => place,
         Text::NoRule => place,
     }
 }

@@ -1,3 +1,4 @@
 pub mod Lending
 pub mod Premise
 pub mod Once
+pub mod RuleTexts

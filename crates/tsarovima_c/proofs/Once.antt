@@ -17,7 +17,7 @@ use Rattle.formats.specs.Bytes.{answer-bytes}
 use Rattle.runs.specs.Putting.{Recorded}
 use Rattle.runs.proofs.Once as runs
 use Rattle.jobs.proofs.Once as jobs
-use Rattle.tsarovima_c.specs.Lent.{RunBy, Tables, state-of, Sized, OpenedBy, Lent, OpenedIfLong, RecordedBy}
+use Rattle.tsarovima_c.specs.Lent.{RunBy, Tables, state-of, Sized, OpenedBy, Lent, OpenedIfLong, RecordedBy, TextBy}
 
 pub job-once : {job answers listing answers₁ listing₁ answers₂ listing₂ : List ℕ} {r₁ r₂ : ℕ} →
     RunBy job answers listing r₁ answers₁ listing₁ → RunBy job answers listing r₂ answers₂ listing₂ →
@@ -86,3 +86,7 @@ recorded-once premise (RecordedBy.done long sized puts) (RecordedBy.done long′
 recorded-once premise (RecordedBy.done long sized puts) (RecordedBy.wrong-length not) = absurd (not long)
 recorded-once premise (RecordedBy.wrong-length not) (RecordedBy.done long sized puts) = absurd (not long)
 recorded-once premise (RecordedBy.wrong-length not) (RecordedBy.wrong-length not′) = (refl, refl, refl, λ e. refl)
+
+pub text-once : (rule : ℕ) (lent : List ℕ) {lent₁ lent₂ : List ℕ} {r₁ r₂ : ℕ} → TextBy rule lent r₁ lent₁ → TextBy rule lent r₂ lent₂ →
+    (r₁ ≡ r₂) × (lent₁ ≡ lent₂)
+text-once rule lent (long, front) (also, same) = (long ∙ sym also, front ∙ sym same)

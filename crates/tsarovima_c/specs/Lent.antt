@@ -1,10 +1,13 @@
 -- What a host lends, and what the calls over it promise.
 use mathlib.Core.Path.{_≡_}
+use mathlib.Core.Logic.{ite}
 use mathlib.Core.Bool.{Bool, true, false}
-use mathlib.Core.List.{List, [], _∷_}
+use mathlib.Core.List.{List, [], _∷_, _++_}
 use Prim.Native.Nat.{ℕ, _≤_}
-use lib.ListN.{length, getD}
+use native.Mathlib.Decide.{decLe}
+use lib.ListN.{length, getD, drop}
 use Rattle.classes.specs.Columns.{laid}
+use Rattle.nodes.specs.Texts.{text}
 use Rattle.types.specs.Limits.{most-nodes, most-entries, rows-long, trail-long, nodes-long, work-long, longest-listing}
 use Rattle.types.specs.States.{State, state, Opened}
 use Rattle.headers.specs.Header.{code-of}
@@ -93,3 +96,10 @@ pub data RecordedBy (was : Lent) (bytes : List ℕ) : ℕ → Lent → Type 0 wh
 -- the eight bytes of a closing
 abbrev pub closing-bytes : List ℕ
 closing-bytes = 65 ∷ 0 ∷ 0 ∷ 0 ∷ 0 ∷ 0 ∷ 0 ∷ 0 ∷ []
+
+-- a rule's text: how many bytes it has, none where the number names no rule. They stand at the front of what was lent if that has room
+-- for them; else all is as it was
+abbrev pub TextBy : (rule : ℕ) (lent : List ℕ) → ℕ → List ℕ → Type 0
+TextBy rule lent r lent′ =
+    let long = length (text rule) in
+    (r ≡ long) × (lent′ ≡ ite (decLe long (length lent)) (text rule ++ drop long lent) lent)

@@ -1,10 +1,12 @@
-// For hosts in C and Rust: the job call, and the record calls over tables that the host lends. `rt staticlib tsarovima_c` writes
-// the archive, tsarovima.h declares it. A slice is a pointer and a length to the host.
+// For hosts in C and Rust: the job call, the record calls over tables that the host lends, and the rules' texts. `rt staticlib
+// tsarovima_c` writes the archive, tsarovima.h declares it. A slice is a pointer and a length to the host.
 //
 // The record calls have one premise: the tables came from tsarovima_open and these calls, and nobody else wrote to them. Every
 // length is looked at first: a wrong one is answered with 1, whatever the tables hold, and leaves all that was lent as it was.
 
 use headers::EIGHT;
+use nodes::text;
+use nodes::text::Text;
 use types::limits::ENTRIES;
 use types::limits::LISTING;
 use types::limits::NODE_ROWS;
@@ -16,7 +18,7 @@ use types::state::Live;
 ghost use mathlib.Core.Path.{_≡_};
 ghost use lib.ListN.{length, replicate};
 ghost use Rattle.tsarovima_c.specs.Lent.{RunBy, Denies, Tables, tables, TableLengths, OpenedBy};
-ghost use Rattle.tsarovima_c.specs.Lent.{Lent, lent, RoomLengths, OpenedIfLong, RecordedBy, closing-bytes};
+ghost use Rattle.tsarovima_c.specs.Lent.{Lent, lent, RoomLengths, OpenedIfLong, RecordedBy, closing-bytes, TextBy};
 
 // What the record calls return.
 const DONE: u32 = 0;
@@ -240,4 +242,17 @@ pub extern "C" fn tsarovima_close(
         answer,
         listing,
     )
+}
+
+// Writes the text of a rule, 1 to 7, to the front of the lent buffer if it has room for it, and returns how many bytes the text has:
+// 0 where there is no such rule.
+#[no_mangle]
+pub extern "C" fn tsarovima_rule_text(rule: u16, lent: &mut [u8]) -> usize
+    ensures { λ r. ⌜ TextBy rule (now (lent .entry)) r (now (lent .exit)) ⌝ }
+{
+    match text::write(rule, lent) {
+        Text::Bytes(n) => n,
+        Text::NoRoom(n) => n,
+        Text::NoRule => 0,
+    }
 }

@@ -1,5 +1,6 @@
 //! The other side of a timing: `tsarovima_job` of the static library, as its C
-//! header declares it, on a job that was prepared before.
+//! header declares it, on a job that was prepared before. `hints` asks it for the
+//! texts of the rules.
 //!
 //! The call begins by clearing its own tables, which are on its stack, and that
 //! is in the time. The buffers that it is lent are made once and not cleared.
@@ -21,6 +22,25 @@ extern "C" {
         listing: *mut u16,
         listing_len: usize,
     ) -> u32;
+
+    fn tsarovima_rule_text(rule: u16, text: *mut u8, text_len: usize) -> usize;
+}
+
+/// More than the longest text of a rule.
+const TEXT: usize = 64;
+
+/// The text that the library writes for a rule.
+///
+/// # Panics
+///
+/// If it has no room.
+pub fn rule_text(rule: u16) -> Vec<u8> {
+    let mut text = vec![0; TEXT];
+    // SAFETY: pointer and length are one live vector's, and the call keeps neither.
+    let length = unsafe { tsarovima_rule_text(rule, text.as_mut_ptr(), text.len()) };
+    assert!(length <= TEXT, "a text of {length} bytes");
+    text.truncate(length);
+    text
 }
 
 /// The listing buffer that every job needs, in numbers.

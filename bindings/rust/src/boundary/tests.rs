@@ -2,7 +2,8 @@
 //! marks, and what a call must leave alone is compared with what was there before.
 
 use super::host::{Host, BYTE, EXACT, LISTING_INDEX, LIVE_AT, MARGIN, MARK, NODES_AT, PARENT, TABLES, TRAIL_AT, WORK_AT};
-use super::{job, JobRefusal, LISTING_NUMBERS};
+use super::{job, rule_text, JobRefusal, LISTING_NUMBERS};
+use crate::RULE_TEXT_BYTES;
 use std::vec;
 use std::vec::Vec;
 
@@ -244,4 +245,22 @@ fn job_of_nothing_lends_nothing() {
     let mut listing = vec![MARK; LISTING_NUMBERS];
     assert_eq!(job(&bytes, &mut [], &mut listing), Ok(()));
     assert_eq!(listing[..5], [0, 0, 4, 4, MARK]);
+}
+
+#[test]
+fn a_rules_text_is_written_whole_or_not_at_all() {
+    for rule in (0..12).chain([256, 257, u16::MAX]) {
+        let mut whole = [BYTE; RULE_TEXT_BYTES];
+        let length = rule_text(rule, &mut whole);
+        assert_eq!(length == 0, !(1..=7).contains(&rule), "rule {}", rule);
+        for room in 0..=RULE_TEXT_BYTES + 1 {
+            let mut lent = vec![BYTE; room + 2 * MARGIN];
+            let mut expected = lent.clone();
+            if length <= room {
+                expected[MARGIN..MARGIN + length].copy_from_slice(&whole[..length]);
+            }
+            assert_eq!(rule_text(rule, &mut lent[MARGIN..MARGIN + room]), length, "rule {} room {}", rule, room);
+            assert!(lent == expected, "rule {} room {}", rule, room);
+        }
+    }
 }

@@ -4,17 +4,17 @@ use mathlib.Core.List.{List, _++_}
 use Prim.Native.Nat.{ℕ, _≤_, suc-le-suc}
 use lib.ListN.{length, drop}
 use lib.Dec.{lit≤}
-use Rattle.nodes.specs.Texts.{text, Written}
+use Rattle.nodes.specs.Texts.{text, AtFront, Written}
 use Rattle.nodes.specs.Texts.Written.{written, no-rule}
-use Rattle.nodes.specs.declared.text.Text.the-variants.{Bytes}
+use Rattle.nodes.specs.declared.text.Text.{Text}
 use Rattle.nodes.proofs.Arms.{not-among}
 use borrow.Author.Needs.{needs}
 use Rattle.nodes.proofs.text.write.Statement.{statement}
 use Rattle.nodes.proofs.text.write.Tie as tie
 
-is-written : (k : ℕ) {rule n : ℕ} {out out′ : List ℕ} → 1 ≤ k → k ≤ 7 → rule ≡ k →
-    (n ≡ length (text k)) × (out′ ≡ text k ++ drop (length (text k)) out) → Written rule out (Bytes n) out′
-is-written k from to is put = rw (is, put .0, put .1) (written from to)
+is-written : (k : ℕ) {rule : ℕ} {r : Text} {out out′ : List ℕ} → 1 ≤ k → k ≤ 7 → rule ≡ k → AtFront (text k) out r out′ →
+    Written rule out r out′
+is-written k from to is put = rw is (written from to put)
 
 slice-aggregate-put : tie.Need-slice-aggregate-put
 slice-aggregate-put c = search needs
