@@ -3,4 +3,3 @@ pub mod Asked
 pub mod Copying
 pub mod Reading
 pub mod Once
-pub mod Texts

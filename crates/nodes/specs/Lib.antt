@@ -3,5 +3,4 @@ pub mod Layout
 pub mod Records
 pub mod Coded
 pub mod Kept
-pub mod Texts
 pub mod Meant

@@ -1,11 +1,10 @@
-// What a node is, on numbers alone: the 8 bytes of a record, its arrow and its rules, the rules in words. No table is touched here.
+// What a node is, on numbers alone: the 8 bytes of a record, its arrow and its rules. No table is touched here.
 //
-// records: what 8 bytes ask for. arrow: arrows and rules. kept: what stands where in a kept node's row. text: the seven rule texts.
+// records: what 8 bytes ask for. arrow: arrows and rules. kept: what stands where in a kept node's row.
 
 pub mod arrow;
 pub mod kept;
 pub mod records;
-pub mod text;
 
 // A combinator and its children's numbers, in the order of document 01's table; a word's n for Word.
 pub enum Node {

@@ -6,8 +6,7 @@ use super::page::START;
 use super::page::STOPPED;
 use headers::EIGHT;
 use headers::HEADER;
-use nodes::text;
-use nodes::text::Text;
+use texts::Text;
 
 const PAGE: usize = 8192;
 
@@ -53,7 +52,7 @@ fn kind(record: &[u8]) -> u8 {
 
 // The text of a rule, byte for byte, by way of a lent array.
 fn rule_by(page: &mut [u8], place: usize, rule: u16, space: &mut [u8]) -> usize {
-    match text::write(rule, space) {
+    match texts::write(rule, space) {
         Text::Bytes(n) => page::text(page, place, page::front(space, n)),
         Text::NoRoom(_) => place,
         Text::NoRule => place,

@@ -5,12 +5,12 @@ use mathlib.Core.List.{List}
 use Prim.Native.Nat.{ℕ, zero-le}
 use native.Mathlib.Decide.{decLe}
 use native.Mathlib.Omega.{arith}
-use Rattle.nodes.specs.Texts.{AtFront, Written}
-use Rattle.nodes.specs.Texts.AtFront.{fits, no-room}
-use Rattle.nodes.specs.Texts.Written.{written, no-rule}
-use Rattle.nodes.specs.declared.text.Text.{Text}
-use Rattle.nodes.specs.declared.text.Text.the-variants.{Bytes, NoRoom, NoRule}
-use Rattle.nodes.proofs.Texts.{no-text}
+use Rattle.texts.specs.Texts.{AtFront, Written}
+use Rattle.texts.specs.Texts.AtFront.{fits, no-room}
+use Rattle.texts.specs.Texts.Written.{written, no-rule}
+use Rattle.texts.specs.declared.Text.{Text}
+use Rattle.texts.specs.declared.Text.the-variants.{Bytes, NoRoom, NoRule}
+use Rattle.texts.proofs.Texts.{no-text}
 use Rattle.tsarovima_c.specs.Lent.{TextBy}
 
 -- how many bytes the text has, by the answer

@@ -7,7 +7,7 @@ use Prim.Native.Nat.{ℕ, _≤_}
 use native.Mathlib.Decide.{decLe}
 use lib.ListN.{length, getD, drop}
 use Rattle.classes.specs.Columns.{laid}
-use Rattle.nodes.specs.Texts.{text}
+use Rattle.texts.specs.Texts.{text}
 use Rattle.types.specs.Limits.{most-nodes, most-entries, rows-long, trail-long, nodes-long, work-long, longest-listing}
 use Rattle.types.specs.States.{State, state, Opened}
 use Rattle.headers.specs.Header.{code-of}

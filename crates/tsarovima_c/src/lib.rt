@@ -5,8 +5,7 @@
 // length is looked at first: a wrong one is answered with 1, whatever the tables hold, and leaves all that was lent as it was.
 
 use headers::EIGHT;
-use nodes::text;
-use nodes::text::Text;
+use texts::Text;
 use types::limits::ENTRIES;
 use types::limits::LISTING;
 use types::limits::NODE_ROWS;
@@ -250,7 +249,7 @@ pub extern "C" fn tsarovima_close(
 pub extern "C" fn tsarovima_rule_text(rule: u16, lent: &mut [u8]) -> usize
     ensures { λ r. ⌜ TextBy rule (now (lent .entry)) r (now (lent .exit)) ⌝ }
 {
-    match text::write(rule, lent) {
+    match texts::write(rule, lent) {
         Text::Bytes(n) => n,
         Text::NoRoom(n) => n,
         Text::NoRule => 0,

@@ -2,8 +2,8 @@
 use mathlib.Core.List.{List, [], _∷_, _++_}
 use Prim.Native.Nat.{ℕ, _≤_, _<_}
 use lib.ListN.{length, getD, drop}
-use Rattle.nodes.specs.declared.text.Text.{Text}
-use Rattle.nodes.specs.declared.text.Text.the-variants.{Bytes, NoRoom, NoRule}
+use Rattle.texts.specs.declared.Text.{Text}
+use Rattle.texts.specs.declared.Text.the-variants.{Bytes, NoRoom, NoRule}
 
 -- 1: comp combinator: left target = right source
 abbrev pub text-1 : List ℕ

@@ -1,16 +1,16 @@
--- `nodes::text::write` meets its contract: each arm's text is what `put` copied; the last arm's number is none of 1 to 7.
+-- `texts::write` meets its contract: each arm's text is what `put` copied; the last arm's number is none of 1 to 7.
 use mathlib.Core.Path.{_≡_}
 use mathlib.Core.List.{List, _++_}
 use Prim.Native.Nat.{ℕ, _≤_, suc-le-suc}
 use lib.ListN.{length, drop}
 use lib.Dec.{lit≤}
-use Rattle.nodes.specs.Texts.{text, AtFront, Written}
-use Rattle.nodes.specs.Texts.Written.{written, no-rule}
-use Rattle.nodes.specs.declared.text.Text.{Text}
+use Rattle.texts.specs.Texts.{text, AtFront, Written}
+use Rattle.texts.specs.Texts.Written.{written, no-rule}
+use Rattle.texts.specs.declared.Text.{Text}
 use Rattle.nodes.proofs.Arms.{not-among}
 use borrow.Author.Needs.{needs}
-use Rattle.nodes.proofs.text.write.Statement.{statement}
-use Rattle.nodes.proofs.text.write.Tie as tie
+use Rattle.texts.proofs.write.Statement.{statement}
+use Rattle.texts.proofs.write.Tie as tie
 
 is-written : (k : ℕ) {rule : ℕ} {r : Text} {out out′ : List ℕ} → 1 ≤ k → k ≤ 7 → rule ≡ k → AtFront (text k) out r out′ →
     Written rule out r out′

@@ -5,10 +5,10 @@ use Prim.Native.Nat.{ℕ, _≤_, zero-le}
 use native.Mathlib.Omega.{arith}
 use lib.Dec.{lit≤}
 use lib.ListN.{length}
-use Rattle.nodes.specs.Texts.{text, longest, AtFront, Written}
-use Rattle.nodes.specs.Texts.AtFront.{fits, no-room}
-use Rattle.nodes.specs.Texts.Written.{written, no-rule}
-use Rattle.nodes.specs.declared.text.Text.{Text}
+use Rattle.texts.specs.Texts.{text, longest, AtFront, Written}
+use Rattle.texts.specs.Texts.AtFront.{fits, no-room}
+use Rattle.texts.specs.Texts.Written.{written, no-rule}
+use Rattle.texts.specs.declared.Text.{Text}
 
 at-front-once : {words out out₁ out₂ : List ℕ} {r₁ r₂ : Text} → AtFront words out r₁ out₁ → AtFront words out r₂ out₂ →
     (r₁ ≡ r₂) × (out₁ ≡ out₂)

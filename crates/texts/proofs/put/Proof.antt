@@ -1,4 +1,4 @@
--- `nodes::text::put` meets its contract. The invariant: the first i bytes of the text, and then the buffer as it was. The measure is
+-- `texts::put` meets its contract. The invariant: the first i bytes of the text, and then the buffer as it was. The measure is
 -- what is left of the text.
 use mathlib.Core.Path.{_≡_, refl}
 use mathlib.Core.List.{List, _++_}
@@ -6,12 +6,12 @@ use Prim.Native.Nat.{ℕ, _-_, _≤_, zero-le}
 use native.Mathlib.Nat.{le-antisymm}
 use native.Mathlib.Omega.{arith}
 use lib.ListN.{length, take, drop, length-set}
-use Rattle.nodes.specs.Texts.{AtFront}
-use Rattle.nodes.specs.Texts.AtFront.{fits, no-room}
-use Rattle.nodes.specs.declared.text.Text.the-variants.{Bytes}
+use Rattle.texts.specs.Texts.{AtFront}
+use Rattle.texts.specs.Texts.AtFront.{fits, no-room}
+use Rattle.texts.specs.declared.Text.the-variants.{Bytes}
 use Rattle.nodes.proofs.Copying.{copied-more, copied-whole}
-use Rattle.nodes.proofs.text.put.Statement.{statement}
-use Rattle.nodes.proofs.text.put.Tie as tie
+use Rattle.texts.proofs.put.Statement.{statement}
+use Rattle.texts.proofs.put.Tie as tie
 
 is-at-front : {words out out′ : List ℕ} {n : ℕ} → length words ≤ length out → n ≡ length words →
     out′ ≡ words ++ drop (length words) out → AtFront words out (Bytes n) out′
