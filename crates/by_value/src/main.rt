@@ -3,12 +3,12 @@
 
 mod say;
 
-use calls::State;
+use calls::Owned;
 use nodes::Node;
 ghost use Rattle.types.specs.States.{Opened};
 ghost use Rattle.calls.specs.Values.{state-of};
 
-fn offer(s: State, words: &[u8], n: Node) -> State
+fn offer(s: Owned, words: &[u8], n: Node) -> Owned
     requires { ⌜ Opened 1024 (state-of s) ⌝ }
     ensures { λ r. ⌜ Opened 1024 (state-of r) ⌝ }
 {
@@ -19,7 +19,7 @@ fn offer(s: State, words: &[u8], n: Node) -> State
     put.state
 }
 
-fn take_back(s: State, to: u16) -> State
+fn take_back(s: Owned, to: u16) -> Owned
     requires { ⌜ Opened 1024 (state-of s) ⌝ }
     ensures { λ r. ⌜ Opened 1024 (state-of r) ⌝ }
 {
@@ -31,7 +31,7 @@ fn take_back(s: State, to: u16) -> State
     put.state
 }
 
-fn close(s: State) -> State
+fn close(s: Owned) -> Owned
     requires { ⌜ Opened 1024 (state-of s) ⌝ }
     ensures { λ r. ⌜ Opened 1024 (state-of r) ⌝ }
 {

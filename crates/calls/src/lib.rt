@@ -28,7 +28,7 @@ ghost use Rattle.types.specs.Calls.{Called};
 ghost use Rattle.calls.specs.Handed.{Handed};
 ghost use Rattle.nodes.specs.declared.Record.the-variants.{Offer, TakeBack, Close};
 
-pub struct State {
+pub struct Owned {
     pub parent: [u16; ENTRIES],
     pub rank: [u16; ENTRIES],
     pub rows: [u16; ROWS],
@@ -38,20 +38,20 @@ pub struct State {
 }
 
 // An answer and the state after it.
-pub struct Put {
+pub struct After {
     pub answer: Answer,
-    pub state: State,
+    pub state: Owned,
 }
 
 // A closing's answer, its listing with 0 past the end, and the state, which is the one that was given.
 pub struct Listed {
     pub answer: Answer,
     pub listing: [u16; LISTING],
-    pub state: State,
+    pub state: Owned,
 }
 
 // The fresh state: the standing entries, and no node.
-pub fn open() -> State
+pub fn open() -> Owned
     ensures { λ r. ⌜ ((o : Opened most-nodes (state-of r)) × (o .nodes ≡ [])) ⌝ }
 {
     let mut parent = [0u16; ENTRIES];
@@ -60,7 +60,7 @@ pub fn open() -> State
     let trail = [0u16; TRAIL];
     let nodes = [0u16; NODE_ROWS];
     let live = state::open(&mut parent, &mut rows);
-    State {
+    Owned {
         parent,
         rank,
         rows,
@@ -125,12 +125,12 @@ fn coded(n: Node) -> Coded
 }
 
 // Offers a node: the checks in the order 1, 3, 2, 4.
-pub fn offer(s: State, n: Node) -> Put
+pub fn offer(s: Owned, n: Node) -> After
     requires { ⌜ Opened most-nodes (state-of s) ⌝ }
     ensures { λ r. ⌜ ((o : Opened most-nodes (state-of s)) → Called most-nodes (state-of s) o (Offer n) (r .answer) (state-of (r .state))) ⌝ }
 {
     if LARGEST_WORD < word_of(n) {
-        return Put {
+        return After {
             answer: Answer::Malformed,
             state: s,
         };
@@ -154,9 +154,9 @@ pub fn offer(s: State, n: Node) -> Put
     );
     let answer = step.answer;
     let live = step.live;
-    Put {
+    After {
         answer,
-        state: State {
+        state: Owned {
             parent,
             rank,
             rows,
@@ -168,7 +168,7 @@ pub fn offer(s: State, n: Node) -> Put
 }
 
 // Takes back to the first `to` nodes.
-pub fn take_back(s: State, to: u16) -> Put
+pub fn take_back(s: Owned, to: u16) -> After
     requires { ⌜ Opened most-nodes (state-of s) ⌝ }
     ensures { λ r. ⌜ ((o : Opened most-nodes (state-of s)) → Called most-nodes (state-of s) o (TakeBack to) (r .answer) (state-of (r .state))) ⌝ }
 {
@@ -189,9 +189,9 @@ pub fn take_back(s: State, to: u16) -> Put
     );
     let answer = step.answer;
     let live = step.live;
-    Put {
+    After {
         answer,
-        state: State {
+        state: Owned {
             parent,
             rank,
             rows,
@@ -212,7 +212,7 @@ fn no_listing(listing: &mut [u16])
 }
 
 // Closes, and hands the listing out.
-pub fn close(s: State) -> Listed
+pub fn close(s: Owned) -> Listed
     requires { ⌜ Opened most-nodes (state-of s) ⌝ }
     ensures { λ r. ⌜ ((o : Opened most-nodes (state-of s)) →
         Called most-nodes (state-of s) o Close (r .answer) (state-of (r .state)) × Handed longest-listing (o .nodes) (r .listing)) ⌝ }

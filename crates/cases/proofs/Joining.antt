@@ -13,8 +13,7 @@ use Rattle.classes.specs.Merging.Verdict.{fits, clash}
 use Rattle.classes.specs.Merging.Merges.{ends, same, stops, goes}
 use Rattle.classes.specs.declared.Bound.{Bound}
 use Rattle.classes.specs.declared.Bound.the-variants.{Free, Unit, Sum, Product}
-use Rattle.classes.proofs.Bounds.{apart-differ}
-use Rattle.classes.proofs.Climbing.{climb-stays}
+use Rattle.classes.proofs.Laws.{apart-differ, climb-stays}
 use Rattle.cases.proofs.Whatever.{Whatever, whatever-map}
 
 -- the way up, which stops at an entry that is its own parent

@@ -1,6 +1,6 @@
 // All the nodes in order, and the listing: nodes, types, offset of the types, offset of the arrows, the types, the arrows.
 
-use super::Closing;
+use super::Found;
 use super::WORK;
 use super::walk;
 use super::walk::NUMBERED;
@@ -107,7 +107,7 @@ fn visit_all(
     listing: &mut [u16],
     entries: u16,
     kept: u16,
-) -> Closing
+) -> Found
     requires { ⌜ ((rank trail : List ℕ) × (links : ℕ) × (rules : List Rule)
         × Stands (laid (now parent) rank (now rows) trail entries links) rules
         × Settled (laid (now parent) rank (now rows) trail entries links) rules (now work) (now listing) 0 []) ⌝ }
@@ -132,12 +132,12 @@ fn visit_all(
             nodes[row + SOURCE],
             nodes[row + TARGET],
         ) else {
-            return Closing::Endless(i);
+            return Found::Endless(i);
         };
         count = types;
         i += 1;
     }
-    Closing::Types(count)
+    Found::Types(count)
 }
 
 // The number of the type of a.
@@ -195,7 +195,7 @@ pub fn close(
     listing: &mut [u16],
     entries: u16,
     kept: u16,
-) -> Closing
+) -> Found
     requires { ⌜ ((rank trail : List ℕ) × (links : ℕ) × (rules : List Rule)
         × Stands (laid (now parent) rank (now rows) trail entries links) rules) ⌝ }
     requires { ⌜ Closable entries (now nodes) (now work) (now listing) kept ⌝ }
@@ -206,10 +206,10 @@ pub fn close(
 {
     clear(work, entries);
     match visit_all(parent, rows, nodes, work, listing, entries, kept) {
-        Closing::Endless(i) => Closing::Endless(i),
-        Closing::Types(count) => {
+        Found::Endless(i) => Found::Endless(i),
+        Found::Types(count) => {
             write(parent, nodes, work, listing, count, kept);
-            Closing::Types(count)
+            Found::Types(count)
         }
     }
 }

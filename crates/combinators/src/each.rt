@@ -2,7 +2,7 @@
 // class table, and it gives its arrow, how many rules are left to join and the first of them. `e` is the number of the next entry;
 // `s` and `t` are the arrows of the first and the second child. Where a node has several rules, they stand in a function beside it.
 
-use super::Entered;
+use super::Placed;
 use super::entries::add_case;
 use super::entries::add_one;
 use super::entries::add_three;
@@ -77,7 +77,7 @@ fn enter_one(
     b: Bound,
     source: u16,
     target: u16,
-) -> Entered
+) -> Placed
     requires { ⌜ Room (part (now parent) (now rows) e links) (b ∷ []) ⌝ }
     ensures { λ r. ⌜ (
         let was = part (now (parent .entry)) (now (rows .entry)) e links in
@@ -90,7 +90,7 @@ fn enter_one(
         target: target,
     };
     let first = says(NO_RULE, source, target);
-    Entered {
+    Placed {
         entries,
         gives,
         rules: 0,
@@ -108,7 +108,7 @@ fn enter_two(
     b: Bound,
     source: u16,
     target: u16,
-) -> Entered
+) -> Placed
     requires { ⌜ Room (part (now parent) (now rows) e links) (a ∷ b ∷ []) ⌝ }
     ensures { λ r. ⌜ (
         let was = part (now (parent .entry)) (now (rows .entry)) e links in
@@ -121,7 +121,7 @@ fn enter_two(
         target: target,
     };
     let first = says(NO_RULE, source, target);
-    Entered {
+    Placed {
         entries,
         gives,
         rules: 0,
@@ -130,7 +130,7 @@ fn enter_two(
 }
 
 // A → A.
-pub(super) fn iden(parent: &mut [u16], rows: &mut [u16], links: u16, e: u16) -> Entered
+pub(super) fn iden(parent: &mut [u16], rows: &mut [u16], links: u16, e: u16) -> Placed
     requires { ⌜ Ready (part (now parent) (now rows) e links) e (leaf Iden e) ⌝ }
     ensures { λ r. ⌜ (
         let was = part (now (parent .entry)) (now (rows .entry)) e links in
@@ -141,7 +141,7 @@ pub(super) fn iden(parent: &mut [u16], rows: &mut [u16], links: u16, e: u16) -> 
 }
 
 // A → 1.
-pub(super) fn unit(parent: &mut [u16], rows: &mut [u16], links: u16, e: u16) -> Entered
+pub(super) fn unit(parent: &mut [u16], rows: &mut [u16], links: u16, e: u16) -> Placed
     requires { ⌜ Ready (part (now parent) (now rows) e links) e (leaf Unit e) ⌝ }
     ensures { λ r. ⌜ (
         let was = part (now (parent .entry)) (now (rows .entry)) e links in
@@ -152,7 +152,7 @@ pub(super) fn unit(parent: &mut [u16], rows: &mut [u16], links: u16, e: u16) -> 
 }
 
 // A → B + C, where s : A → B.
-pub(super) fn injl(parent: &mut [u16], rows: &mut [u16], links: u16, s: Arrow, e: u16) -> Entered
+pub(super) fn injl(parent: &mut [u16], rows: &mut [u16], links: u16, s: Arrow, e: u16) -> Placed
     requires { ⌜ Ready (part (now parent) (now rows) e links) e (unary InjL s e) ⌝ }
     ensures { λ r. ⌜ (
         let was = part (now (parent .entry)) (now (rows .entry)) e links in
@@ -164,7 +164,7 @@ pub(super) fn injl(parent: &mut [u16], rows: &mut [u16], links: u16, s: Arrow, e
 }
 
 // A → B + C, where s : A → C.
-pub(super) fn injr(parent: &mut [u16], rows: &mut [u16], links: u16, s: Arrow, e: u16) -> Entered
+pub(super) fn injr(parent: &mut [u16], rows: &mut [u16], links: u16, s: Arrow, e: u16) -> Placed
     requires { ⌜ Ready (part (now parent) (now rows) e links) e (unary InjR s e) ⌝ }
     ensures { λ r. ⌜ (
         let was = part (now (parent .entry)) (now (rows .entry)) e links in
@@ -176,7 +176,7 @@ pub(super) fn injr(parent: &mut [u16], rows: &mut [u16], links: u16, s: Arrow, e
 }
 
 // A × B → C, where s : A → C.
-pub(super) fn take(parent: &mut [u16], rows: &mut [u16], links: u16, s: Arrow, e: u16) -> Entered
+pub(super) fn take(parent: &mut [u16], rows: &mut [u16], links: u16, s: Arrow, e: u16) -> Placed
     requires { ⌜ Ready (part (now parent) (now rows) e links) e (unary Take s e) ⌝ }
     ensures { λ r. ⌜ (
         let was = part (now (parent .entry)) (now (rows .entry)) e links in
@@ -188,7 +188,7 @@ pub(super) fn take(parent: &mut [u16], rows: &mut [u16], links: u16, s: Arrow, e
 }
 
 // A × B → C, where s : B → C.
-pub(super) fn drop(parent: &mut [u16], rows: &mut [u16], links: u16, s: Arrow, e: u16) -> Entered
+pub(super) fn drop(parent: &mut [u16], rows: &mut [u16], links: u16, s: Arrow, e: u16) -> Placed
     requires { ⌜ Ready (part (now parent) (now rows) e links) e (unary Drop s e) ⌝ }
     ensures { λ r. ⌜ (
         let was = part (now (parent .entry)) (now (rows .entry)) e links in
@@ -200,7 +200,7 @@ pub(super) fn drop(parent: &mut [u16], rows: &mut [u16], links: u16, s: Arrow, e
 }
 
 // A → C, where s : A → B and t : B → C. It adds no entry.
-pub(super) fn comp(parent: &[u16], rows: &[u16], links: u16, s: Arrow, t: Arrow, e: u16) -> Entered
+pub(super) fn comp(parent: &[u16], rows: &[u16], links: u16, s: Arrow, t: Arrow, e: u16) -> Placed
     requires { ⌜ Ready (part (now parent) (now rows) e links) e (binary Comp s t e) ⌝ }
     ensures { λ r. ⌜ (
         let was = part (now (parent .entry)) (now (rows .entry)) e links in
@@ -217,7 +217,7 @@ pub(super) fn comp(parent: &[u16], rows: &[u16], links: u16, s: Arrow, t: Arrow,
         other: t.source,
     };
     let rules = unmet(parent, first);
-    Entered {
+    Placed {
         entries: e,
         gives,
         rules,
@@ -233,7 +233,7 @@ pub(super) fn case(
     s: Arrow,
     t: Arrow,
     e: u16,
-) -> Entered
+) -> Placed
     requires { ⌜ Ready (part (now parent) (now rows) e links) e (binary Case s t e) ⌝ }
     ensures { λ r. ⌜ (
         let was = part (now (parent .entry)) (now (rows .entry)) e links in
@@ -249,7 +249,7 @@ pub(super) fn case(
     let right = Bound::Product(e + 1, e + 2);
     let seven = add_case(parent, rows, links, e, left);
     let entries = add_one(parent, rows, links, seven, right);
-    Entered {
+    Placed {
         entries,
         gives,
         rules: 4,
@@ -271,7 +271,7 @@ pub(super) fn case_rule(s: Arrow, t: Arrow, e: u16, i: u16) -> Rule
 }
 
 // A case whose second child is hidden.
-pub(super) fn assertl(parent: &mut [u16], rows: &mut [u16], links: u16, s: Arrow, e: u16) -> Entered
+pub(super) fn assertl(parent: &mut [u16], rows: &mut [u16], links: u16, s: Arrow, e: u16) -> Placed
     requires { ⌜ Ready (part (now parent) (now rows) e links) e (unary AssertL s e) ⌝ }
     ensures { λ r. ⌜ (
         let was = part (now (parent .entry)) (now (rows .entry)) e links in
@@ -285,7 +285,7 @@ pub(super) fn assertl(parent: &mut [u16], rows: &mut [u16], links: u16, s: Arrow
     let first = assertl_rule(s, e, 0);
     let half = Bound::Product(e, e + 2);
     let entries = add_case(parent, rows, links, e, half);
-    Entered {
+    Placed {
         entries,
         gives,
         rules: 2,
@@ -306,7 +306,7 @@ pub(super) fn assertl_rule(s: Arrow, e: u16, i: u16) -> Rule
 }
 
 // A case whose first child is hidden.
-pub(super) fn assertr(parent: &mut [u16], rows: &mut [u16], links: u16, s: Arrow, e: u16) -> Entered
+pub(super) fn assertr(parent: &mut [u16], rows: &mut [u16], links: u16, s: Arrow, e: u16) -> Placed
     requires { ⌜ Ready (part (now parent) (now rows) e links) e (unary AssertR s e) ⌝ }
     ensures { λ r. ⌜ (
         let was = part (now (parent .entry)) (now (rows .entry)) e links in
@@ -320,7 +320,7 @@ pub(super) fn assertr(parent: &mut [u16], rows: &mut [u16], links: u16, s: Arrow
     let first = assertr_rule(s, e, 0);
     let half = Bound::Product(e + 1, e + 2);
     let entries = add_case(parent, rows, links, e, half);
-    Entered {
+    Placed {
         entries,
         gives,
         rules: 2,
@@ -348,7 +348,7 @@ pub(super) fn pair(
     s: Arrow,
     t: Arrow,
     e: u16,
-) -> Entered
+) -> Placed
     requires { ⌜ Ready (part (now parent) (now rows) e links) e (binary Pair s t e) ⌝ }
     ensures { λ r. ⌜ (
         let was = part (now (parent .entry)) (now (rows .entry)) e links in
@@ -367,7 +367,7 @@ pub(super) fn pair(
     let b = Bound::Product(s.target, t.target);
     let entries = add_one(parent, rows, links, e, b);
     let rules = unmet(parent, first);
-    Entered {
+    Placed {
         entries,
         gives,
         rules,
@@ -383,7 +383,7 @@ pub(super) fn disconnect(
     s: Arrow,
     t: Arrow,
     e: u16,
-) -> Entered
+) -> Placed
     requires { ⌜ Ready (part (now parent) (now rows) e links) e (binary Disconnect s t e) ⌝ }
     ensures { λ r. ⌜ (
         let was = part (now (parent .entry)) (now (rows .entry)) e links in
@@ -400,7 +400,7 @@ pub(super) fn disconnect(
     let c = Bound::Product(e + 1, t.target);
     let two = add_two(parent, rows, links, e, Bound::Free, Bound::Free);
     let entries = add_three(parent, rows, links, two, a, b, c);
-    Entered {
+    Placed {
         entries,
         gives,
         rules: 2,
@@ -427,7 +427,7 @@ pub(super) fn disconnect_hole(
     links: u16,
     s: Arrow,
     e: u16,
-) -> Entered
+) -> Placed
     requires { ⌜ Ready (part (now parent) (now rows) e links) e (unary DisconnectHole s e) ⌝ }
     ensures { λ r. ⌜ (
         let was = part (now (parent .entry)) (now (rows .entry)) e links in
@@ -445,7 +445,7 @@ pub(super) fn disconnect_hole(
     let two = add_two(parent, rows, links, e, Bound::Free, Bound::Free);
     let four = add_two(parent, rows, links, two, Bound::Free, Bound::Free);
     let entries = add_three(parent, rows, links, four, a, b, c);
-    Entered {
+    Placed {
         entries,
         gives,
         rules: 2,
@@ -454,7 +454,7 @@ pub(super) fn disconnect_hole(
 }
 
 // A → B. A fail is the same.
-pub(super) fn witness(parent: &mut [u16], rows: &mut [u16], links: u16, e: u16) -> Entered
+pub(super) fn witness(parent: &mut [u16], rows: &mut [u16], links: u16, e: u16) -> Placed
     requires { ⌜ Ready (part (now parent) (now rows) e links) e (leaf Witness e) ⌝ }
     ensures { λ r. ⌜ (
         let was = part (now (parent .entry)) (now (rows .entry)) e links in
@@ -465,7 +465,7 @@ pub(super) fn witness(parent: &mut [u16], rows: &mut [u16], links: u16, e: u16) 
 }
 
 // 1 → 2^(2^n). It adds no entry.
-pub(super) fn word(parent: &[u16], rows: &[u16], links: u16, n: u16, e: u16) -> Entered
+pub(super) fn word(parent: &[u16], rows: &[u16], links: u16, n: u16, e: u16) -> Placed
     requires { ⌜ n ≤ 31 ⌝ }
     ensures { λ r. ⌜ (
         let was = part (now (parent .entry)) (now (rows .entry)) e links in
@@ -478,7 +478,7 @@ pub(super) fn word(parent: &[u16], rows: &[u16], links: u16, n: u16, e: u16) -> 
         target,
     };
     let first = says(NO_RULE, target, target);
-    Entered {
+    Placed {
         entries: e,
         gives,
         rules: 0,

@@ -19,7 +19,7 @@ ghost use Rattle.combinators.specs.Entering.{part, Ready, Enters, leaf, 
 
 // What a node's entries leave: how many entries there are then, the node's arrow, how many rules are still to be joined, and the
 // first of them.
-pub struct Entered {
+pub struct Placed {
     pub entries: u16,
     pub gives: Arrow,
     pub rules: u16,
@@ -27,7 +27,7 @@ pub struct Entered {
 }
 
 // Adds a node's entries. Its rules are joined by the caller, but for one that holds already.
-pub fn enter(parent: &mut [u16], rows: &mut [u16], links: u16, row: Adds) -> Entered
+pub fn enter(parent: &mut [u16], rows: &mut [u16], links: u16, row: Adds) -> Placed
     requires { ⌜ Ready (part (now parent) (now rows) (row .e) links) (row .e) (meant row) × Proper (node-of (row .node)) ⌝ }
     ensures { λ r. ⌜ (
         let was = part (now (parent .entry)) (now (rows .entry)) (row .e) links in
@@ -58,7 +58,7 @@ fn enter_leaf(
     kind: Kind,
     n: u16,
     e: u16,
-) -> Entered
+) -> Placed
     requires { ⌜ Ready (part (now parent) (now rows) e links) e (leaf (named kind n 0) e) × Proper (named kind n 0) ⌝ }
     requires { ⌜ length (children (named kind n 0)) ≡ 0 ⌝ }
     ensures { λ r. ⌜ (
@@ -82,7 +82,7 @@ fn enter_unary(
     kind: Kind,
     s: Arrow,
     e: u16,
-) -> Entered
+) -> Placed
     requires { ⌜ Ready (part (now parent) (now rows) e links) e (unary (λ i. named kind i 0) s e) ⌝ }
     requires { ⌜ length (children (named kind 0 0)) ≡ 1 ⌝ }
     ensures { λ r. ⌜ (
@@ -110,7 +110,7 @@ fn enter_binary(
     s: Arrow,
     t: Arrow,
     e: u16,
-) -> Entered
+) -> Placed
     requires { ⌜ Ready (part (now parent) (now rows) e links) e (binary (named kind) s t e) ⌝ }
     requires { ⌜ length (children (named kind 0 0)) ≡ 2 ⌝ }
     ensures { λ r. ⌜ (

@@ -19,8 +19,7 @@ use Rattle.classes.specs.Promises.{verdict, made-links}
 use Rattle.classes.specs.Promises.Run.{here, joins}
 use Rattle.classes.specs.declared.context.Joined.{Joined}
 use Rattle.classes.specs.Forest.{Forest}
-use Rattle.classes.proofs.Closing.{made-good}
-use Rattle.classes.proofs.GivenBack.{run-forest}
+use Rattle.classes.proofs.Laws.{made-good, run-forest}
 use Rattle.nodes.specs.Layout.{Numbered, says}
 use Rattle.combinators.specs.Entered.{Meets}
 use Rattle.types.specs.States.{Stops}

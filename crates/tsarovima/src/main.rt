@@ -8,7 +8,7 @@ mod file;
 mod page;
 mod report;
 
-use file::Found;
+use file::Ended;
 use libc::STDERR_FILENO;
 use libc::STDIN_FILENO;
 use types::limits::LISTING;
@@ -54,9 +54,9 @@ fn check(read: &[u8], length: usize) {
 fn check_all(descriptor: i32, name: &[u8]) {
     let mut space = [0u8; BYTES];
     match file::read(descriptor, &mut space) {
-        Found::Whole(length) => check(&space, length),
-        Found::Longer => too_long(name),
-        Found::Failed => failed(name),
+        Ended::Whole(length) => check(&space, length),
+        Ended::Longer => too_long(name),
+        Ended::Failed => failed(name),
     }
 }
 

@@ -6,7 +6,7 @@ use Prim.Native.Nat.{ℕ, _<_}
 use native.Mathlib.Omega.{arith}
 use lib.ListN.{length, getD, take, drop}
 use Rattle.classes.specs.Columns.{column}
-use Rattle.classes.proofs.Columns.{same-columns}
+use Rattle.classes.proofs.Laws.{same-columns}
 use Rattle.types.specs.Limits.{most-nodes, most-entries}
 use Rattle.types.specs.States.{State, Opened}
 use Rattle.types.specs.declared.Answer.{Answer}

@@ -6,7 +6,7 @@ use native.Mathlib.Omega.{arith}
 use lib.ListN.{length, replicate, length-replicate}
 use Rattle.classes.specs.Table.{fresh}
 use Rattle.classes.specs.Columns.{width, kind-at, left-at, right-at, shape-at, column}
-use Rattle.classes.proofs.Columns.{column-blank}
+use Rattle.classes.proofs.Laws.{column-blank}
 use Rattle.classes.specs.Made.{Made}
 use Rattle.nodes.specs.Layout.{standing}
 use Rattle.combinators.specs.Entered.{entered}

@@ -9,7 +9,7 @@ use classes::Mark;
 use classes::context;
 use classes::context::Added;
 use classes::undo;
-use closing::Closing;
+use closing::Found;
 use closing::listing;
 use nodes::kept::ENTRIES_BEFORE;
 use nodes::kept::LINKS_BEFORE;
@@ -26,8 +26,7 @@ ghost use Rattle.combinators.specs.Entered.{entered};
 ghost use Rattle.nodes.specs.Kept.{node-width};
 ghost use Rattle.types.specs.States.{held, Opened};
 ghost use Rattle.types.specs.Applying.{rows-cleared};
-ghost use Rattle.types.specs.Calls.{Called};
-ghost use Rattle.types.specs.Calls.{Closing as Closes};
+ghost use Rattle.types.specs.Calls.{Called, Closing};
 ghost use Rattle.nodes.specs.declared.Record.the-variants.{TakeBack};
 
 // The entries that stand from the start: 1, and 2^(2^n) for n from 0 to 31.
@@ -133,12 +132,12 @@ pub fn close(
     requires { ⌜ ((most : ℕ) × (rank trail : List ℕ) × Opened most (held (now parent) rank (now rows) trail (now nodes) live)) ⌝ }
     requires { ⌜ (4 + 3 * live .entries < 2 ^ 16) × (4 * live .entries ≤ length (now work)) × (4 + 3 * live .entries + 2 * live .kept ≤ length (now listed)) ⌝ }
     ensures { λ r. ⌜ ((most : ℕ) (rank trail : List ℕ) (o : Opened most (held (now (parent .entry)) rank (now (rows .entry)) trail (now (nodes .entry)) live)) →
-        Closes most (o .nodes) (now (listed .entry)) r (now (listed .exit))) ⌝ }
+        Closing most (o .nodes) (now (listed .entry)) r (now (listed .exit))) ⌝ }
 {
     let kept = live.kept;
     match listing::close(parent, rows, nodes, work, listed, live.entries, kept) {
-        Closing::Types(types) => Answer::Closed(kept, types),
-        Closing::Endless(i) => Answer::Endless(i),
+        Found::Types(types) => Answer::Closed(kept, types),
+        Found::Endless(i) => Answer::Endless(i),
     }
 }
 

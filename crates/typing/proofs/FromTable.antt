@@ -12,10 +12,7 @@ use Rattle.classes.specs.Forced.{Rule, Forced}
 use Rattle.classes.specs.Table.{Table, root, bounds}
 use Rattle.classes.specs.Made.{Within, Stands}
 use Rattle.classes.specs.Forest.{Forest}
-use Rattle.classes.proofs.Agreeing.{given-within}
-use Rattle.classes.proofs.Bounds.{bound-given, bound-past}
-use Rattle.classes.proofs.Closing.{made-good}
-use Rattle.classes.proofs.Roots.{root-live, settled}
+use Rattle.classes.proofs.Laws.{given-within, bound-given, bound-past, made-good, root-live, settled}
 use Rattle.classes.specs.declared.Bound.the-variants.{Free, Sum, Product}
 use Rattle.typing.specs.Types.{Ty, Satisfies, Unbound, Closes}
 use Rattle.typing.specs.Finite.{Finite}

@@ -10,8 +10,8 @@ use Rattle.classes.specs.Made.{Stands}
 use Rattle.closing.specs.Closings.ClosedBy.{endless}
 use Rattle.closing.specs.Visiting.{Settled}
 use Rattle.closing.specs.Writing.{AllBy}
-use Rattle.closing.specs.declared.Closing.{Closing}
-use Rattle.closing.specs.declared.Closing.the-variants.{Types, Endless}
+use Rattle.closing.specs.declared.Found.{Found}
+use Rattle.closing.specs.declared.Found.the-variants.{Types, Endless}
 use Rattle.closing.proofs.Beginning.{settled-begins}
 use Rattle.closing.proofs.Listings.{numberable, whole-listing, closed-types}
 use borrow.Author.Needs.{needs}
@@ -43,10 +43,10 @@ module _ (c : tie.After-visit-all) where
   abbrev args-of : tie.Start
   args-of = start begun
 
-  left : {rank trail : List ℕ} {links : ℕ} {rules : List Rule} → Stands (lent begun rank trail links) rules → (r : Closing) → c .visit-all .result ≡ r →
+  left : {rank trail : List ℕ} {links : ℕ} {rules : List Rule} → Stands (lent begun rank trail links) rules → (r : Found) → c .visit-all .result ≡ r →
       AllBy (lent begun rank trail links) rules (args-of .args .nodes .now) (args-of .args .listing .now) (args-of .args .kept) r (c .visit-all .last .1 .1 .1 .0) (c .visit-all .last .1 .1 .1 .1 .0)
   left {rank} {trail} {links} {rules} s r is =
-      subst (λ (x : Closing). AllBy (lent begun rank trail links) rules (args-of .args .nodes .now) (args-of .args .listing .now) (args-of .args .kept) x (c .visit-all .last .1 .1 .1 .0) (c .visit-all .last .1 .1 .1 .1 .0)) is
+      subst (λ (x : Found). AllBy (lent begun rank trail links) rules (args-of .args .nodes .now) (args-of .args .listing .now) (args-of .args .kept) x (c .visit-all .last .1 .1 .1 .0) (c .visit-all .last .1 .1 .1 .1 .0)) is
       (c .visit-all .ensures rank trail links rules s (settled begun rank trail links rules))
 
 clear-requires : tie.Need-clear-requires

@@ -14,12 +14,9 @@ use Rattle.closing.specs.Walking.{mark-at, path-in, opened}
 use Rattle.closing.specs.Visiting.{unseen, Settled}
 use Rattle.closing.specs.declared.walk.Turn.{Turn}
 use Rattle.closing.specs.declared.walk.Turn.the-variants.{Cycle}
-use Rattle.classes.proofs.Closing.{made-good}
-use Rattle.classes.proofs.Premises.{made-rooted}
-use Rattle.classes.proofs.Roots.{root-live}
+use Rattle.classes.proofs.Laws.{made-good, made-rooted, root-live, is-row}
 use Rattle.closing.proofs.Walks.{Walking, After, top-there}
 use Rattle.classes.specs.Columns.{kind-at, shape-at}
-use Rattle.classes.proofs.Columns.{is-row}
 use Rattle.closing.proofs.Visits.{seeable, seen-low, steppable, walked-on, walking-begins, visited-done, visited-endless}
 use Rattle.closing.proofs.walk.visit.Statement.{statement}
 use Rattle.closing.proofs.walk.visit.Tie as tie

@@ -3,7 +3,7 @@ use mathlib.Core.Path.{_≡_, subst}
 use mathlib.Core.List.{List}
 use Prim.Native.Nat.{ℕ}
 use Rattle.classes.specs.Columns.{laid}
-use Rattle.closing.specs.declared.Closing.{Closing as Found}
+use Rattle.closing.specs.declared.Found.{Found}
 use Rattle.types.specs.Calls.{Closing}
 use Rattle.types.specs.States.{State, state, Opened}
 use Rattle.types.proofs.Answering.{answer-of}
