@@ -10,7 +10,7 @@
  * to see to: the memory is its own, as long as it says; the pointer is not null, also where the length is 0; a buffer of 16-bit
  * numbers is aligned to 2 bytes (bytes may lie anywhere); no two buffers of a call overlap.
  *
- * docs/FORMATS.md has the bytes: records, answers, jobs and the listing, with an example of each. */
+ * docs/FORMATS.md has the bytes: records, answers, jobs, the listing and the texts of the rules, with an example of each. */
 
 #ifndef TSAROVIMA_H
 #define TSAROVIMA_H
@@ -86,7 +86,7 @@ uint32_t tsarovima_job(const uint8_t *job, size_t job_len, uint8_t *answers, siz
 
 /* The text of a rule: what a node needs, in words, for the number that is the first of an answer with TSAROVIMA_CODE_CLASH.
  *
- * Returns how many bytes the text has: 0 if there is no such rule, which may be asked for too. Writes them into the first of `text`
+ * Returns how many bytes the text has, 0 if there is no such rule: any number may be asked for. Writes them at the front of `text`
  * if it has room for all of them, else nothing. They are UTF-8, and no zero follows. Bytes past them are as they were. */
 size_t tsarovima_rule_text(uint16_t rule, uint8_t *text, size_t text_len);
 
