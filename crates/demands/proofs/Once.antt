@@ -1,0 +1,32 @@
+-- No second outcome where no other crate says so: of the calls on the state by value, and of writing a rule's text.
+use mathlib.Core.Path.{_≡_, refl, sym, _∙_}
+use mathlib.Core.List.{List}
+use Prim.Native.Nat.{ℕ}
+use Rattle.nodes.specs.Texts.{Written}
+use Rattle.nodes.specs.Texts.Written.{written, no-rule}
+use Rattle.nodes.specs.declared.Record.{Record}
+use Rattle.nodes.specs.declared.text.Text.{Text}
+use Rattle.types.specs.Limits.{most-nodes}
+use Rattle.types.specs.States.{Opened}
+use Rattle.types.proofs.Fixed.{same-nodes-same-state}
+use Rattle.calls.specs.Values.{state-of}
+use Rattle.calls.specs.declared.State.{State as Value}
+use Rattle.demands.specs.Kinds.{Said, Arrays, FreshValue, ValueCall}
+use Rattle.demands.proofs.Chained.{same-step}
+use Rattle.demands.proofs.Meanings.{same-value, value-calls}
+
+-- `calls::open`
+pub no-second-value-is-opened : {v w : Value} → FreshValue v → FreshValue w → v ≡ w
+no-second-value-is-opened (long, (o, none)) (also, (p, nothing)) =
+    same-value long also (same-nodes-same-state o p (none ∙ sym nothing) (long .parents ∙ sym (also .parents)))
+
+-- `calls::offer`, `calls::take_back`, `calls::close`
+pub no-second-answer-by-value : {v w w′ : Value} {r : Record} {x x′ : Said} → Arrays v → Opened most-nodes (state-of v) → ValueCall v r x w → ValueCall v r x′ w′ → (x ≡ x′) × (w ≡ w′)
+no-second-answer-by-value long o a b = same-step value-calls long o a b
+
+-- `nodes::text::write`
+pub no-second-text-is-written : {rule : ℕ} {out out₁ out₂ : List ℕ} {t₁ t₂ : Text} → Written rule out t₁ out₁ → Written rule out t₂ out₂ → (t₁ ≡ t₂) × (out₁ ≡ out₂)
+no-second-text-is-written (written low high) (written low′ high′) = (refl, refl)
+no-second-text-is-written (written low high) (no-rule none) = absurd (none low high)
+no-second-text-is-written (no-rule none) (written low high) = absurd (none low high)
+no-second-text-is-written (no-rule none) (no-rule none′) = (refl, refl)
