@@ -1,7 +1,7 @@
 -- Each kind of record call means the calls of `types`.
 use mathlib.Core.Path.{_≡_, refl, sym, ap, _∙_, subst}
 use mathlib.Core.Logic.{ite, by-cases, if-pos, if-neg}
-use mathlib.Core.List.{List, [], _∷_, _++_}
+use mathlib.Core.List.{List, [], _∷_, _++_, map}
 use Prim.Native.Nat.{ℕ, _-_}
 use native.Mathlib.Decide.{ℕ-discrete}
 use native.Mathlib.Omega.{arith}
@@ -15,6 +15,7 @@ use Rattle.types.specs.Limits.{most-nodes, most-entries, longest-listing}
 use Rattle.types.specs.Answers.{Answered}
 use Rattle.types.specs.Closings.{no-listing, Lists}
 use Rattle.types.specs.Calls.{Closing}
+use Rattle.types.specs.Runs.{Runs}
 use Rattle.types.specs.States.{State, Opened}
 use Rattle.types.specs.declared.Answer.{Answer}
 use Rattle.types.specs.declared.Answer.the-variants.{Closed, Endless}
@@ -29,7 +30,7 @@ use Rattle.calls.specs.declared.State.{State as Value}
 use Rattle.tsarovima_c.specs.Lent.{Tables, Sized, OpenedBy, RecordedBy}
 use Rattle.tsarovima_c.specs.Lent as Lent
 use Rattle.tsarovima_c.proofs.Once.{same-tables}
-use Rattle.demands.specs.Chains.{Demand3}
+use Rattle.demands.specs.Chains.{Chain, Demand3}
 use Rattle.demands.specs.Kinds.{Said, said, NoneKept, told, FreshLent, LentCall, tables-of, Arrays, FreshValue, ValueCall, FreshTables, Read, HostCall, asked}
 use Rattle.demands.proofs.Chained.{Means, RecordCalls, chains-meet-demand-3}
 
@@ -57,6 +58,19 @@ lent-means (LentCall.take-back f) o = record { says = _; shown = refl; called = 
 lent-means (LentCall.close f) o = record { says = _; shown = refl; called = closing-called o (f o); lists = told-is-listed (f o .answered) (f o) }
 lent-means LentCall.malformed o =
     record { says = _; shown = refl; called = record { after = o; answered = Answered.malformed; same-rows = refl }; lists = Lists.malformed }
+
+-- a chain of them is a run, from the nodes kept at its start to those at its end
+pub lent-runs : {most : ℕ} {s s′ : State} {rs : List Record} {xs : List Said} (o : Opened most s) → Chain (LentCall most) s rs xs s′ →
+    (o′ : Opened most s′) × Runs most (o .nodes) rs (map (λ x. x .answer) xs) (map (λ x. x .listing) xs) (o′ .nodes)
+lent-runs o Chain.ends = (o, Runs.ends)
+lent-runs {most} o (Chain.goes {i = r} a f) =
+    let m = lent-means a o in
+    let (last, runs) = lent-runs (m .called .after) f in
+    let is = sym (m .shown) in
+    (last, Runs.goes
+    (subst (λ (x : Said). Answered most (o .nodes) r (x .answer) (m .called .after .nodes)) is (m .called .answered))
+    (subst (λ (x : Said). Lists (o .nodes) r (x .listing)) is (m .lists))
+    runs)
 
 pub lent-calls : (most rows : ℕ) → RecordCalls most rows (λ s. limit (s .classes) ≡ rows) (λ s. s) (LentCall most) (λ r. r)
 lent-calls most rows = record {
@@ -149,11 +163,11 @@ host-calls = record {
 host-fresh : (x : Tables) → FreshTables x → Sized x × NoneKept most-nodes (Lent.state-of x)
 host-fresh x (was, OpenedBy.done sized long o none) = (long, (o, none))
 
-pub lent-tables-meet-demand-3 : (most rows : ℕ) → Demand3 most (FreshLent most rows) (LentCall most) (λ r. r)
-lent-tables-meet-demand-3 most rows = chains-meet-demand-3 (lent-calls most rows) (FreshLent most rows) (λ x f. f)
+pub demand-3-lent : (most rows : ℕ) → Demand3 most (FreshLent most rows) (LentCall most) (λ r. r)
+demand-3-lent most rows = chains-meet-demand-3 (lent-calls most rows) (FreshLent most rows) (λ x f. f)
 
-pub values-meet-demand-3 : Demand3 most-nodes FreshValue ValueCall (λ r. r)
-values-meet-demand-3 = chains-meet-demand-3 value-calls FreshValue (λ x f. f)
+pub demand-3-by-value : Demand3 most-nodes FreshValue ValueCall (λ r. r)
+demand-3-by-value = chains-meet-demand-3 value-calls FreshValue (λ x f. f)
 
-pub hosts-meet-demand-3 : Demand3 most-nodes FreshTables HostCall asked
-hosts-meet-demand-3 = chains-meet-demand-3 host-calls FreshTables host-fresh
+pub demand-3-for-hosts : Demand3 most-nodes FreshTables HostCall asked
+demand-3-for-hosts = chains-meet-demand-3 host-calls FreshTables host-fresh

@@ -167,16 +167,16 @@ module _ {most : ℕ} {s : State} (o : Opened most s) where
   arrows-there : length (built (o .nodes) .arrows) ≡ length (o .nodes)
   arrows-there = rw (← opened-stood o .program-is) (opened-stood o .arrows-are)
 
-  pub a-clash-names-a-rule-of-the-table : {r : Record} {a : Answer} {kept′ : List Node} → Answered most (o .nodes) r a kept′ → numbers a .code ≡ 4 →
+  pub named-1-to-7 : {r : Record} {a : Answer} {kept′ : List Node} → Answered most (o .nodes) r a kept′ → numbers a .code ≡ 4 →
       (1 ≤ numbers a .first) × (numbers a .first ≤ 7)
-  a-clash-names-a-rule-of-the-table malformed code = absurd (omega (arith, code))
-  a-clash-names-a-rule-of-the-table (over-31 u) code = absurd (omega (arith, code))
-  a-clash-names-a-rule-of-the-table (full p f) code = absurd (omega (arith, code))
-  a-clash-names-a-rule-of-the-table (no-child p l b) code = absurd (omega (arith, code))
-  a-clash-names-a-rule-of-the-table (keeps p l b q) code = absurd (omega (arith, code))
-  a-clash-names-a-rule-of-the-table (refuses {n = n} p l b (clashes k h none clash)) code =
+  named-1-to-7 malformed code = absurd (omega (arith, code))
+  named-1-to-7 (over-31 u) code = absurd (omega (arith, code))
+  named-1-to-7 (full p f) code = absurd (omega (arith, code))
+  named-1-to-7 (no-child p l b) code = absurd (omega (arith, code))
+  named-1-to-7 (keeps p l b q) code = absurd (omega (arith, code))
+  named-1-to-7 (refuses {n = n} p l b (clashes k h none clash)) code =
       rule-named (built (o .nodes)) (opened-inside o) n (rw arrows-there b) k h none clash
-  a-clash-names-a-rule-of-the-table (takes-back h) code = absurd (omega (arith, code))
-  a-clash-names-a-rule-of-the-table (too-far f) code = absurd (omega (arith, code))
-  a-clash-names-a-rule-of-the-table (closes c) code = absurd (omega (arith, code))
-  a-clash-names-a-rule-of-the-table (endless h e lowest) code = absurd (omega (arith, code))
+  named-1-to-7 (takes-back h) code = absurd (omega (arith, code))
+  named-1-to-7 (too-far f) code = absurd (omega (arith, code))
+  named-1-to-7 (closes c) code = absurd (omega (arith, code))
+  named-1-to-7 (endless h e lowest) code = absurd (omega (arith, code))
