@@ -1,4 +1,5 @@
--- The three demands, sentence by sentence: what MISSION.md says of them, and what holds. What is cited here is proved in the other files.
+-- The three demands, sentence by sentence: what MISSION.md says of them, and what holds. What is cited here is proved
+-- in the other files.
 use mathlib.Core.Path.{_≡_}
 use mathlib.Core.Logic.{_↔_}
 use mathlib.Core.List.{List, _++_, map}
@@ -19,6 +20,7 @@ use Rattle.types.specs.Runs.{Runs, offers}
 use Rattle.types.specs.States.{State, state, Opened}
 use Rattle.types.specs.declared.Answer.{Answer}
 use Rattle.types.specs.declared.Answer.the-variants.{Kept}
+use Rattle.types.proofs.Demand3.{kept-nodes-are-kept-again as kept-again}
 use Rattle.types.proofs.Once.{answered-once}
 use Rattle.formats.specs.Header.{count}
 use Rattle.formats.specs.declared.header.Outcome.{Outcome}
@@ -27,9 +29,11 @@ use Rattle.jobs.specs.Jobs.{records, Job}
 use Rattle.calls.specs.Values.{state-of}
 use Rattle.calls.specs.declared.State.{State as Value}
 use Rattle.tsarovima_c.specs.Lent.{Lent, OpenedIfLong, RecordedBy}
-use Rattle.demands.specs.Words.{Refused, Admissible, ForcesClash, FirstToClash, number-of, ClassesOf, ClassesWith, Satisfiable, ShowsMostGeneral, answers-from}
+use Rattle.demands.specs.Words.{Refused, Admissible, ForcesClash, FirstToClash, number-of, ClassesOf}
+use Rattle.demands.specs.Words.{ClassesWith, Satisfiable, ShowsMostGeneral, answers-from}
 use Rattle.demands.specs.Chains.{Chain, StillKept, Demand3}
-use Rattle.demands.specs.Kinds.{Said, FreshLent, LentCall, Arrays, FreshValue, ValueCall, FreshTables, HostCall, asked}
+use Rattle.demands.specs.Kinds.{Said, FreshLent, LentCall, Arrays, FreshValue, ValueCall, FreshTables, HostCall}
+use Rattle.demands.specs.Kinds.{asked}
 use Rattle.demands.proofs.Refusals.{refused-job, refused-state, refused-value, refused-tables, wrong-length}
 use Rattle.demands.proofs.Clashes.{clash-iff-forced, named-first, first-named, fall-in-classes, few-joins}
 use Rattle.demands.proofs.Targets.{named-1-to-7}
@@ -38,8 +42,8 @@ use Rattle.demands.proofs.Meanings.{lent-runs, demand-3-lent, demand-3-
 use Rattle.demands.proofs.Rooms.{opened-fresh, full-iff-most-kept}
 use Rattle.demands.proofs.JobAnswers.{later-bytes}
 
--- DEMAND 1. "Any bytes may come as a job, and any numbers in a record. Nothing traps or runs on": the contracts of `jobs::job`, which has no premise,
--- and that every function is proved
+-- DEMAND 1. "Any bytes may come as a job, and any numbers in a record. Nothing traps or runs on": the contracts of
+-- `jobs::job`, which has no premise, and that every function is proved
 
 -- "A refused job writes nothing to the lent buffers"
 pub a-refused-job-writes-nothing : {job answers listing answers′ listing′ : List ℕ} {r : Outcome} →
@@ -71,29 +75,34 @@ a-wrong-length-leaves-all = wrong-length
 
 -- DEMAND 2. "Verdict, failing rule and types equal the Rust's": not proved, shown by runs
 
--- "A well-formed node, with room left, is refused for a clash exactly when the rules so far, its own included, force two different kinds to be equal"
+-- "A well-formed node, with room left, is refused for a clash exactly when the rules so far, its own included, force
+-- two different kinds to be equal"
 pub clash-exactly-when-forced : {most : ℕ} {kept kept′ : List Node} {n : Node} {a : Answer} →
     Admissible most kept n → Answered most kept (Offer n) a kept′ → (numbers a .code ≡ 4) ↔ ForcesClash kept n
 clash-exactly-when-forced = clash-iff-forced
 
 -- "a clash that names the very rule an author must mend": the first whose addition brings one, and that one is named
 pub first-rule-that-clashes-is-named : {most : ℕ} {kept kept′ : List Node} {n : Node} {a : Answer} {k : ℕ} →
-    Admissible most kept n → Answered most kept (Offer n) a kept′ → FirstToClash kept n k → numbers a ≡ numbered 4 (number-of kept n k) 0
+    Admissible most kept n → Answered most kept (Offer n) a kept′ → FirstToClash kept n k →
+    numbers a ≡ numbered 4 (number-of kept n k) 0
 first-rule-that-clashes-is-named = first-named
 
 pub a-clash-names-the-first-rule : {most : ℕ} {kept kept′ : List Node} {n : Node} {a : Answer} →
-    Answered most kept (Offer n) a kept′ → numbers a .code ≡ 4 → (k : ℕ) × FirstToClash kept n k × (numbers a .first ≡ number-of kept n k)
+    Answered most kept (Offer n) a kept′ → numbers a .code ≡ 4 →
+    (k : ℕ) × FirstToClash kept n k × (numbers a .first ≡ number-of kept n k)
 a-clash-names-the-first-rule = named-first
 
 -- which is one of the seven: D = target s, numbered 0, cannot clash
-pub a-clash-names-a-rule-of-the-table : {most : ℕ} {s : State} (o : Opened most s) {r : Record} {a : Answer} {kept′ : List Node} →
+pub a-clash-names-a-rule-of-the-table : {most : ℕ} {s : State} (o : Opened most s) {r : Record} {a : Answer}
+    {kept′ : List Node} →
     Answered most (o .nodes) r a kept′ → numbers a .code ≡ 4 → (1 ≤ numbers a .first) × (numbers a .first ≤ 7)
 a-clash-names-a-rule-of-the-table = named-1-to-7
 
 -- "Joins are the classes before, plus the new entries, less the classes after" (document 01), "bounded by the entries"
 pub joins-are-the-fall-in-classes : {most : ℕ} {kept kept′ : List Node} {n : Node} {i joins : ℕ} →
     Answered most kept (Offer n) (Kept i joins) kept′ →
-    (was is : ℕ) → ClassesOf kept was → ClassesWith kept n is → joins + is ≡ was + length (row-of (built kept) n .entries)
+    (was is : ℕ) → ClassesOf kept was → ClassesWith kept n is →
+    joins + is ≡ was + length (row-of (built kept) n .entries)
 joins-are-the-fall-in-classes = fall-in-classes
 
 pub joins-are-at-most-the-entries : {most : ℕ} {kept kept′ : List Node} {n : Node} {i joins : ℕ} →
@@ -119,12 +128,18 @@ pub opening-is-fresh : (most rows : ℕ) → 33 + 8 * most ≤ rows → rows < 2
     FreshLent most rows (state (entered (fresh rows) standing) (replicate (node-width * most) 0) 0)
 opening-is-fresh = opened-fresh
 
-pub a-chain-is-a-run : {most : ℕ} {s s′ : State} {rs : List Record} {xs : List Said} (o : Opened most s) → Chain (LentCall most) s rs xs s′ →
+pub a-chain-is-a-run : {most : ℕ} {s s′ : State} {rs : List Record} {xs : List Said} (o : Opened most s) →
+    Chain (LentCall most) s rs xs s′ →
     (o′ : Opened most s′) × Runs most (o .nodes) rs (map (λ x. x .answer) xs) (map (λ x. x .listing) xs) (o′ .nodes)
 a-chain-is-a-run = lent-runs
 
--- "After any run of offers, refusals, closings and take-backs to an earlier count, every later answer and listing equals, number for number, that of a
--- fresh state offered only the nodes still kept, in their order": on lent tables, by value, for hosts,
+pub kept-nodes-are-kept-again : {most : ℕ} {rs : List Record} {kept : List Node} → StillKept most rs kept →
+    StillKept most (offers kept) kept
+kept-nodes-are-kept-again still = kept-again (still .2)
+
+-- "After any run of offers, refusals, closings and take-backs to an earlier count, every later answer and listing
+-- equals, number for number, that of a fresh state offered only the nodes still kept, in their order": on lent
+-- tables, by value, for hosts,
 pub lent-tables-answer-as-fresh : (most rows : ℕ) → Demand3 most (FreshLent most rows) (LentCall most) (λ r. r)
 lent-tables-answer-as-fresh = demand-3-lent
 
@@ -134,10 +149,12 @@ values-answer-as-fresh = demand-3-by-value
 pub host-tables-answer-as-fresh : Demand3 most-nodes FreshTables HostCall asked
 host-tables-answer-as-fresh = demand-3-for-hosts
 
--- and in a job, whose later records are answered, byte for byte, as those of a job that first offers the nodes still kept
-pub later-records-of-a-job-are-answered-as-fresh : {job answers listing answers₁ listing₁ job′ answers′ listing′ answers₂ listing₂ : List ℕ}
-    (rs later : List Record) (kept : List Node) →
-    Job job answers listing Done answers₁ listing₁ → records job (count job) ≡ rs ++ later → StillKept most-nodes rs kept →
+-- and in a job, whose later records are answered, byte for byte, as those of a job that first offers the nodes still
+-- kept
+pub later-records-of-a-job-are-answered-as-fresh : {job answers listing answers₁ listing₁ : List ℕ}
+    {job′ answers′ listing′ answers₂ listing₂ : List ℕ} (rs later : List Record) (kept : List Node) →
+    Job job answers listing Done answers₁ listing₁ → records job (count job) ≡ rs ++ later →
+    StillKept most-nodes rs kept →
     Job job′ answers′ listing′ Done answers₂ listing₂ → records job′ (count job′) ≡ offers kept ++ later →
     answers-from (length rs) (length later) answers₁ ≡ answers-from (length (offers kept)) (length later) answers₂
 later-records-of-a-job-are-answered-as-fresh = later-bytes

@@ -1,7 +1,7 @@
 -- Each kind of record call means the calls of `types`.
 use mathlib.Core.Path.{_≡_, refl, sym, ap, _∙_, subst}
 use mathlib.Core.Logic.{ite, by-cases, if-pos, if-neg}
-use mathlib.Core.List.{List, [], _∷_, _++_, map}
+use mathlib.Core.List.{List, [], _++_, map}
 use Prim.Native.Nat.{ℕ, _-_}
 use native.Mathlib.Decide.{ℕ-discrete}
 use native.Mathlib.Omega.{arith}
@@ -13,7 +13,7 @@ use Rattle.nodes.specs.declared.Record.{Record}
 use Rattle.nodes.specs.declared.Record.the-variants.{Offer, TakeBack, Close, Malformed as Misshapen}
 use Rattle.types.specs.Limits.{most-nodes, most-entries, longest-listing}
 use Rattle.types.specs.Answers.{Answered}
-use Rattle.types.specs.Closings.{no-listing, Lists}
+use Rattle.types.specs.Closings.{Lists}
 use Rattle.types.specs.Calls.{Closing}
 use Rattle.types.specs.Runs.{Runs}
 use Rattle.types.specs.States.{State, Opened}
@@ -23,7 +23,7 @@ use Rattle.types.proofs.Handing.{closing-called}
 use Rattle.formats.specs.Bytes.{answer-bytes}
 use Rattle.formats.specs.Shown.{end-of}
 use Rattle.jobs.specs.Jobs.{or-none}
-use Rattle.jobs.specs.Putting.{Leaves, Recorded}
+use Rattle.jobs.specs.Putting.{Leaves}
 use Rattle.jobs.proofs.Leaving.{Whole, closing-whole, shown-whole}
 use Rattle.calls.specs.Values.{state-of}
 use Rattle.calls.specs.declared.State.{State as Value}
@@ -31,7 +31,8 @@ use Rattle.tsarovima_c.specs.Lent.{Tables, Sized, OpenedBy, RecordedBy}
 use Rattle.tsarovima_c.specs.Lent as Lent
 use Rattle.tsarovima_c.proofs.Once.{same-tables}
 use Rattle.demands.specs.Chains.{Chain, Demand3}
-use Rattle.demands.specs.Kinds.{Said, said, NoneKept, told, FreshLent, LentCall, tables-of, Arrays, FreshValue, ValueCall, FreshTables, Read, HostCall, asked}
+use Rattle.demands.specs.Kinds.{Said, said, NoneKept, told, FreshLent, LentCall, tables-of, Arrays, FreshValue}
+use Rattle.demands.specs.Kinds.{ValueCall, FreshTables, Read, HostCall, asked}
 use Rattle.demands.proofs.Chained.{Means, RecordCalls, chains-meet-demand-3}
 
 -- a listing at the front is read to the end that it tells
@@ -45,22 +46,33 @@ read-whole l rest (long, ends) =
 types-are-no-cycle : {n m i : ℕ} → Closed n m ≡ Endless i → ⊥
 types-are-no-cycle e = let z : _≡_ {A = ℕ} 0 1 = cc in omega arith
 
-told-is-listed : {most : ℕ} {kept kept′ : List Node} {a : Answer} {lent left : List ℕ} → Answered most kept Close a kept′ → Closing most kept lent a left → Lists kept Close (told a left)
+told-is-listed : {most : ℕ} {kept kept′ : List Node} {a : Answer} {lent left : List ℕ} →
+    Answered most kept Close a kept′ → Closing most kept lent a left → Lists kept Close (told a left)
 told-is-listed {kept = kept} {lent = lent} (Answered.closes d) c =
     let l = c .listed in
     let front = c .written (λ i e. types-are-no-cycle e) in
-    subst (Lists kept Close) (sym (ap (λ (x : List ℕ). take (end-of x) x) front ∙ read-whole l (drop (length l) lent) (closing-whole (c .lists)))) (c .lists)
+    let whole = read-whole l (drop (length l) lent) (closing-whole (c .lists)) in
+    let is = ap (λ (x : List ℕ). take (end-of x) x) front ∙ whole in
+    subst (Lists kept Close) (sym is) (c .lists)
 told-is-listed (Answered.endless {i = i} h e lowest) c = Lists.endless i h e
 
-lent-means : {most : ℕ} {s s′ : State} {r : Record} {x : Said} → LentCall most s r x s′ → (o : Opened most s) → Means most s o r (λ (y : Said). y) x s′
+lent-means : {most : ℕ} {s s′ : State} {r : Record} {x : Said} → LentCall most s r x s′ → (o : Opened most s) →
+    Means most s o r (λ (y : Said). y) x s′
 lent-means (LentCall.offer f) o = record { says = _; shown = refl; called = f o; lists = Lists.offers }
 lent-means (LentCall.take-back f) o = record { says = _; shown = refl; called = f o; lists = Lists.takes-back }
-lent-means (LentCall.close f) o = record { says = _; shown = refl; called = closing-called o (f o); lists = told-is-listed (f o .answered) (f o) }
+lent-means (LentCall.close f) o =
+    record { says = _; shown = refl; called = closing-called o (f o); lists = told-is-listed (f o .answered) (f o) }
 lent-means LentCall.malformed o =
-    record { says = _; shown = refl; called = record { after = o; answered = Answered.malformed; same-rows = refl }; lists = Lists.malformed }
+    record {
+      says = _;
+      shown = refl;
+      called = record { after = o; answered = Answered.malformed; same-rows = refl };
+      lists = Lists.malformed;
+    }
 
 -- a chain of them is a run, from the nodes kept at its start to those at its end
-pub lent-runs : {most : ℕ} {s s′ : State} {rs : List Record} {xs : List Said} (o : Opened most s) → Chain (LentCall most) s rs xs s′ →
+pub lent-runs : {most : ℕ} {s s′ : State} {rs : List Record} {xs : List Said} (o : Opened most s) →
+    Chain (LentCall most) s rs xs s′ →
     (o′ : Opened most s′) × Runs most (o .nodes) rs (map (λ x. x .answer) xs) (map (λ x. x .listing) xs) (o′ .nodes)
 lent-runs o Chain.ends = (o, Runs.ends)
 lent-runs {most} o (Chain.goes {i = r} a f) =
@@ -72,7 +84,8 @@ lent-runs {most} o (Chain.goes {i = r} a f) =
     (subst (λ (x : Said). Lists (o .nodes) r (x .listing)) is (m .lists))
     runs)
 
-pub lent-calls : (most rows : ℕ) → RecordCalls most rows (λ s. limit (s .classes) ≡ rows) (λ s. s) (LentCall most) (λ r. r)
+pub lent-calls : (most rows : ℕ) →
+    RecordCalls most rows (λ s. limit (s .classes) ≡ rows) (λ s. s) (LentCall most) (λ r. r)
 lent-calls most rows = record {
   long = λ w. w;
   fixed = λ w w′ e. e;
@@ -101,11 +114,13 @@ handed (TakeBack k) x = x
 handed Close x = said (x .answer) (x .listing ++ replicate (longest-listing - length (x .listing)) 0)
 handed Misshapen x = x
 
-value-means : {v v′ : Value} {r : Record} {x : Said} → ValueCall v r x v′ → (o : Opened most-nodes (state-of v)) → Means most-nodes (state-of v) o r (handed r) x (state-of v′)
+value-means : {v v′ : Value} {r : Record} {x : Said} → ValueCall v r x v′ → (o : Opened most-nodes (state-of v)) →
+    Means most-nodes (state-of v) o r (handed r) x (state-of v′)
 value-means (ValueCall.offer long f) o = record { says = _; shown = refl; called = f o; lists = Lists.offers }
 value-means (ValueCall.take-back long f) o = record { says = _; shown = refl; called = f o; lists = Lists.takes-back }
 value-means (ValueCall.close {r = r} long f h) o =
-    record { says = said (r .answer) (h o .listed); shown = ap (said (r .answer)) (h o .are); called = f o; lists = h o .lists }
+    let says = said (r .answer) (h o .listed) in
+    record { says = says; shown = ap (said (r .answer)) (h o .are); called = f o; lists = h o .lists }
 
 value-stays : {v v′ : Value} {r : Record} {x : Said} → ValueCall v r x v′ → Arrays v′
 value-stays (ValueCall.offer long f) = long
@@ -123,18 +138,24 @@ value-calls = record {
 
 -- FOR HOSTS IN OTHER LANGUAGES
 abbrev host-reads : List ℕ → Said → Read
-host-reads bytes x = record { answer = answer-bytes (x .answer); listing = ite (ℕ-discrete (getD bytes 0 0) 65) (or-none (x .listing)) [] }
+host-reads bytes x = record {
+  answer = answer-bytes (x .answer);
+  listing = ite (ℕ-discrete (getD bytes 0 0) 65) (or-none (x .listing)) [];
+}
 
 -- what stands at the front of the listing's buffer after a record of kind 65 is its listing
-listing-read : {kept : List Node} {r : Record} {kind : ℕ} {a : Answer} {before after : List ℕ} (l : Leaves kept r kind a before after) →
+listing-read : {kept : List Node} {r : Record} {kind : ℕ} {a : Answer} {before after : List ℕ}
+    (l : Leaves kept r kind a before after) →
     ite (ℕ-discrete kind 65) (take (end-of after) after) [] ≡ ite (ℕ-discrete kind 65) (or-none (l .listed)) []
 listing-read {kind = kind} {after = after} l = by-cases (ℕ-discrete kind 65)
     (λ e.
     let (rest, front) = l .front e in
-    if-pos (ℕ-discrete kind 65) e _ _ ∙ ap (λ (x : List ℕ). take (end-of x) x) front ∙ read-whole (or-none (l .listed)) rest (shown-whole (l .lists)) ∙ sym (if-pos (ℕ-discrete kind 65) e _ _))
+    if-pos (ℕ-discrete kind 65) e _ _ ∙ ap (λ (x : List ℕ). take (end-of x) x) front
+    ∙ read-whole (or-none (l .listed)) rest (shown-whole (l .lists)) ∙ sym (if-pos (ℕ-discrete kind 65) e _ _))
     (λ e. if-neg (ℕ-discrete kind 65) e _ _ ∙ sym (if-neg (ℕ-discrete kind 65) e _ _))
 
-host-means : {x y : Tables} {bytes : List ℕ} {out : Read} → HostCall x bytes out y → (o : Opened most-nodes (Lent.state-of x)) →
+host-means : {x y : Tables} {bytes : List ℕ} {out : Read} → HostCall x bytes out y →
+    (o : Opened most-nodes (Lent.state-of x)) →
     Means most-nodes (Lent.state-of x) o (asked bytes) (host-reads bytes) out (Lent.state-of y)
 host-means (HostCall.put (RecordedBy.done long sized f)) o =
     let p = f o in

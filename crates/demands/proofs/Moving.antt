@@ -1,5 +1,5 @@
--- A free entry that no bound and no rule names can be made equal to another without bringing a clash: put the other in its place, and whatever is
--- equal by force is so without the new rule.
+-- A free entry that no bound and no rule names can be made equal to another without bringing a clash: put the other
+-- in its place, and whatever is equal by force is so without the new rule.
 use mathlib.Core.Path.{_≡_, sym, ap, _∙_, subst, subst₂}
 use mathlib.Core.Logic.{ite, by-cases, if-pos, if-neg, ⊎-elim}
 use mathlib.Core.List.{List, [], _∷_, _++_, List·Memᴰ, List·Memᴰ·append-cases, List·Memᴰ·eq-of-singleton}
@@ -12,7 +12,8 @@ use Rattle.classes.specs.Table.{kind-of}
 use Rattle.classes.specs.declared.Bound.{Bound}
 use Rattle.classes.specs.declared.Bound.the-variants.{Free, Unit, Sum, Product}
 
--- entries put in place of entries, so that bounds stay and rules are forced still: all that is equal by force is so still
+-- entries put in place of entries, so that bounds stay and rules are forced still: all that is equal by force is so
+-- still
 module _ {bounds : List Bound} {rules less : List Rule} (put : ℕ → ℕ)
     (ruled : (r : Rule) → List·Memᴰ r rules → Forced bounds less (put (r .one)) (put (r .other)))
     (sums : (a l r : ℕ) → bound bounds a ≡ Sum l r → bound bounds (put a) ≡ Sum (put l) (put r))
@@ -25,7 +26,8 @@ module _ {bounds : List Bound} {rules less : List Rule} (put : ℕ → ℕ)
   forced-still (Forced.sum-left d p q) = Forced.sum-left (forced-still d) (sums _ _ _ p) (sums _ _ _ q)
   forced-still (Forced.sum-right d p q) = Forced.sum-right (forced-still d) (sums _ _ _ p) (sums _ _ _ q)
   forced-still (Forced.product-left d p q) = Forced.product-left (forced-still d) (products _ _ _ p) (products _ _ _ q)
-  forced-still (Forced.product-right d p q) = Forced.product-right (forced-still d) (products _ _ _ p) (products _ _ _ q)
+  forced-still (Forced.product-right d p q) =
+      Forced.product-right (forced-still d) (products _ _ _ p) (products _ _ _ q)
 
 -- a bound names no part d
 abbrev pub Without : ℕ → Bound → Type 0
@@ -41,7 +43,8 @@ kinds-not-free Differ.unit-product = (λ e. omega (arith, ap kind-of e), λ e. o
 kinds-not-free Differ.sum-product = (λ e. omega (arith, ap kind-of e), λ e. omega (arith, ap kind-of e))
 kinds-not-free (Differ.turned k) = let (b, c) = kinds-not-free k in (c, b)
 
-module _ (bounds : List Bound) (rules : List Rule) (d t : ℕ) (free : bound bounds d ≡ Free) (unnamed : (a : ℕ) → Without d (bound bounds a))
+module _ (bounds : List Bound) (rules : List Rule) (d t : ℕ) (free : bound bounds d ≡ Free)
+    (unnamed : (a : ℕ) → Without d (bound bounds a))
     (unruled : (r : Rule) → List·Memᴰ r rules → (r .one ≡ d → ⊥) × (r .other ≡ d → ⊥)) where
   -- t in the place of d
   abbrev put : ℕ → ℕ
@@ -76,12 +79,14 @@ module _ (bounds : List Bound) (rules : List Rule) (d t : ℕ) (free : bound bou
   pub new-free-entry-cannot-clash : Clash bounds (rules ++ (equal d t ∷ [])) → Clash bounds rules
   new-free-entry-cannot-clash c =
       let (one, other) = kinds-not-free (c .kinds) in
-      let ruled : (r : Rule) → List·Memᴰ r (rules ++ (equal d t ∷ [])) → Forced bounds rules (put (r .one)) (put (r .other)) =
+      let ruled : (r : Rule) → List·Memᴰ r (rules ++ (equal d t ∷ [])) →
+      Forced bounds rules (put (r .one)) (put (r .other)) =
       λ r m. ⊎-elim (old-rule r) (λ n. new-rule r (List·Memᴰ·eq-of-singleton n)) (List·Memᴰ·append-cases rules m) in
       record {
         one = c .one;
         other = c .other;
-        forced = subst₂ (λ (a b : ℕ). Forced bounds rules a b) (stays (c .one) (not-free one)) (stays (c .other) (not-free other))
+        forced = subst₂ (λ (a b : ℕ). Forced bounds rules a b)
+            (stays (c .one) (not-free one)) (stays (c .other) (not-free other))
             (forced-still put ruled sum-stays product-stays (c .forced));
         kinds = c .kinds;
       }

@@ -19,10 +19,13 @@ use Rattle.types.specs.declared.Answer.{Answer}
 use Rattle.types.proofs.Begun.{opened-first}
 use Rattle.demands.specs.Kinds.{FreshLent}
 
-pub opened-fresh : (most rows : ℕ) → 33 + 8 * most ≤ rows → rows < 2 ^ 16 → FreshLent most rows (state (entered (fresh rows) standing) (replicate (node-width * most) 0) 0)
-opened-fresh most rows wide small = (entered-limit (fresh rows) standing ∙ length-replicate rows 0, opened-first most rows wide small refl refl)
+pub opened-fresh : (most rows : ℕ) → 33 + 8 * most ≤ rows → rows < 2 ^ 16 →
+    FreshLent most rows (state (entered (fresh rows) standing) (replicate (node-width * most) 0) 0)
+opened-fresh most rows wide small =
+    (entered-limit (fresh rows) standing ∙ length-replicate rows 0, opened-first most rows wide small refl refl)
 
-pub full-iff-most-kept : {most : ℕ} {kept kept′ : List Node} {n : Node} {a : Answer} → Proper n → Answered most kept (Offer n) a kept′ → (numbers a .code ≡ 3) ↔ (most ≤ length kept)
+pub full-iff-most-kept : {most : ℕ} {kept kept′ : List Node} {n : Node} {a : Answer} → Proper n →
+    Answered most kept (Offer n) a kept′ → (numbers a .code ≡ 3) ↔ (most ≤ length kept)
 full-iff-most-kept proper (over-31 u) = absurd (u proper)
 full-iff-most-kept proper (full p f) = (λ code. f, λ h. refl)
 full-iff-most-kept proper (no-child p l b) = (λ code. absurd (omega (arith, code)), λ h. absurd (omega (arith, h, l)))
