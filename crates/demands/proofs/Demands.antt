@@ -25,22 +25,23 @@ use Rattle.types.proofs.Once.{answered-once}
 use Rattle.formats.specs.Header.{count}
 use Rattle.formats.specs.declared.header.Outcome.{Outcome}
 use Rattle.formats.specs.declared.header.Outcome.the-variants.{Done}
-use Rattle.jobs.specs.Jobs.{records, Job}
+use Rattle.jobs.specs.Jobs.{records, over, Job}
 use Rattle.calls.specs.Values.{state-of}
 use Rattle.calls.specs.declared.State.{State as Value}
-use Rattle.tsarovima_c.specs.Lent.{Lent, OpenedIfLong, RecordedBy}
+use Rattle.tsarovima_c.specs.Lent.{RunBy, Lent, OpenedIfLong, RecordedBy}
 use Rattle.demands.specs.Words.{Refused, Admissible, ForcesClash, FirstToClash, number-of, ClassesOf}
-use Rattle.demands.specs.Words.{ClassesWith, Satisfiable, ShowsMostGeneral, answers-from}
+use Rattle.demands.specs.Words.{ClassesWith, Satisfiable, ShowsMostGeneral, answers-from, ClosesLast}
 use Rattle.demands.specs.Chains.{Chain, StillKept, Demand3}
 use Rattle.demands.specs.Kinds.{Said, FreshLent, LentCall, Arrays, FreshValue, ValueCall, FreshTables, HostCall}
 use Rattle.demands.specs.Kinds.{asked}
-use Rattle.demands.proofs.Refusals.{refused-job, refused-state, refused-value, refused-tables, wrong-length}
+use Rattle.demands.proofs.Refusals.{refused-job, refused-run, refused-state, refused-value, refused-tables}
+use Rattle.demands.proofs.Refusals.{wrong-length}
 use Rattle.demands.proofs.Clashes.{clash-iff-forced, named-first, first-named, fall-in-classes, few-joins}
 use Rattle.demands.proofs.Targets.{named-1-to-7}
 use Rattle.demands.proofs.Closings.{closed-iff-satisfiable, cycle-iff-not-satisfiable, shows-most-general}
 use Rattle.demands.proofs.Meanings.{lent-runs, demand-3-lent, demand-3-by-value, demand-3-for-hosts}
 use Rattle.demands.proofs.Rooms.{opened-fresh, full-iff-most-kept}
-use Rattle.demands.proofs.JobAnswers.{later-bytes}
+use Rattle.demands.proofs.JobAnswers.{later-bytes, later-listing}
 
 -- DEMAND 1. "Any bytes may come as a job, and any numbers in a record. Nothing traps or runs on": the contracts of
 -- `jobs::job`, which has no premise, and that every function is proved
@@ -49,6 +50,10 @@ use Rattle.demands.proofs.JobAnswers.{later-bytes}
 pub a-refused-job-writes-nothing : {job answers listing answers′ listing′ : List ℕ} {r : Outcome} →
     Job job answers listing r answers′ listing′ → (r ≡ Done → ⊥) → (answers′ ≡ answers) × (listing′ ≡ listing)
 a-refused-job-writes-nothing = refused-job
+
+pub a-hosts-refused-job-writes-nothing : {job answers listing answers′ listing′ : List ℕ} {r : ℕ} →
+    RunBy job answers listing r answers′ listing′ → (r ≡ 0 → ⊥) → (answers′ ≡ answers) × (listing′ ≡ listing)
+a-hosts-refused-job-writes-nothing = refused-run
 
 -- "A refused record gets the answer document 01 fixes"
 pub a-record-has-one-answer : {most : ℕ} {kept kept₁ kept₂ : List Node} {r : Record} {a₁ a₂ : Answer} →
@@ -149,15 +154,21 @@ values-answer-as-fresh = demand-3-by-value
 pub host-tables-answer-as-fresh : Demand3 most-nodes FreshTables HostCall asked
 host-tables-answer-as-fresh = demand-3-for-hosts
 
--- and in a job, whose later records are answered, byte for byte, as those of a job that first offers the nodes still
--- kept
-pub later-records-of-a-job-are-answered-as-fresh : {job answers listing answers₁ listing₁ : List ℕ}
-    {job′ answers′ listing′ answers₂ listing₂ : List ℕ} (rs later : List Record) (kept : List Node) →
-    Job job answers listing Done answers₁ listing₁ → records job (count job) ≡ rs ++ later →
-    StillKept most-nodes rs kept →
-    Job job′ answers′ listing′ Done answers₂ listing₂ → records job′ (count job′) ≡ offers kept ++ later →
-    answers-from (length rs) (length later) answers₁ ≡ answers-from (length (offers kept)) (length later) answers₂
-later-records-of-a-job-are-answered-as-fresh = later-bytes
+-- and in a job: the later records are answered, byte for byte, and the last is listed, number for number, as in a job
+-- that first offers the nodes still kept
+module _ {job answers listing answers₁ listing₁ job′ answers′ listing′ answers₂ listing₂ : List ℕ}
+    (rs later : List Record) (kept : List Node)
+    (one : Job job answers listing Done answers₁ listing₁) (of-one : records job (count job) ≡ rs ++ later)
+    (still : StillKept most-nodes rs kept)
+    (two : Job job′ answers′ listing′ Done answers₂ listing₂)
+    (of-two : records job′ (count job′) ≡ offers kept ++ later) where
+  pub a-jobs-later-answers-are-as-fresh :
+      answers-from (length rs) (length later) answers₁ ≡ answers-from (length (offers kept)) (length later) answers₂
+  a-jobs-later-answers-are-as-fresh = later-bytes rs later kept one of-one still two of-two
+
+  pub a-jobs-listing-is-as-fresh : 0 < length later → ClosesLast job → ClosesLast job′ →
+      (l : List ℕ) × (listing₁ ≡ over l listing) × (listing₂ ≡ over l listing′)
+  a-jobs-listing-is-as-fresh = later-listing rs later kept one of-one still two of-two
 
 -- "Room taken back is room again"
 pub room-is-by-the-nodes-still-kept : {most : ℕ} {kept kept′ : List Node} {n : Node} {a : Answer} →

@@ -27,12 +27,12 @@ use Rattle.jobs.specs.Putting.{Leaves}
 use Rattle.jobs.proofs.Leaving.{Whole, closing-whole, shown-whole}
 use Rattle.calls.specs.Values.{state-of}
 use Rattle.calls.specs.declared.State.{State as Value}
-use Rattle.tsarovima_c.specs.Lent.{Tables, Sized, OpenedBy, RecordedBy}
+use Rattle.tsarovima_c.specs.Lent.{Tables, Sized, OpenedBy, lent, RecordedBy}
 use Rattle.tsarovima_c.specs.Lent as Lent
 use Rattle.tsarovima_c.proofs.Once.{same-tables}
 use Rattle.demands.specs.Chains.{Chain, Demand3}
 use Rattle.demands.specs.Kinds.{Said, said, NoneKept, told, FreshLent, LentCall, tables-of, Arrays, FreshValue}
-use Rattle.demands.specs.Kinds.{ValueCall, FreshTables, Read, HostCall, asked}
+use Rattle.demands.specs.Kinds.{ValueCall, FreshTables, Read, read, HostCall, asked}
 use Rattle.demands.proofs.Chained.{Means, RecordCalls, chains-meet-demand-3}
 
 -- a listing at the front is read to the end that it tells
@@ -157,9 +157,10 @@ listing-read {kind = kind} {after = after} l = by-cases (ℕ-discrete kind 65)
 host-means : {x y : Tables} {bytes : List ℕ} {out : Read} → HostCall x bytes out y →
     (o : Opened most-nodes (Lent.state-of x)) →
     Means most-nodes (Lent.state-of x) o (asked bytes) (host-reads bytes) out (Lent.state-of y)
-host-means (HostCall.put (RecordedBy.done long sized f)) o =
+host-means (HostCall.put {is = is} {bytes = bytes} (RecordedBy.done long sized f)) o =
     let p = f o in
-    let bytes-read = ap (take 8) (p .written) in
+    let bytes-read =
+    ap (λ (bs : List ℕ). read bytes (lent (is .tables) (is .work) (is .listing) bs) .answer) (p .written) in
     let numbers-read = listing-read (p .leaves) in
     record {
       says = said (p .answer) (p .leaves .listed);

@@ -15,10 +15,11 @@ use Rattle.types.specs.declared.Answer.{Answer}
 use Rattle.types.proofs.Fixed.{same-nodes-leave-the-state}
 use Rattle.calls.specs.Values.{state-of}
 use Rattle.calls.specs.declared.State.{State as Value}
+use Rattle.formats.specs.Header.{code-of}
 use Rattle.formats.specs.declared.header.Outcome.{Outcome}
 use Rattle.formats.specs.declared.header.Outcome.the-variants.{Done}
 use Rattle.jobs.specs.Jobs.{Job}
-use Rattle.tsarovima_c.specs.Lent.{Lent, OpenedIfLong, RecordedBy}
+use Rattle.tsarovima_c.specs.Lent.{RunBy, Lent, OpenedIfLong, RecordedBy}
 use Rattle.tsarovima_c.proofs.Once.{same-tables}
 use Rattle.demands.specs.Words.{Refused}
 use Rattle.demands.specs.Kinds.{Said, Arrays, ValueCall}
@@ -30,6 +31,10 @@ pub refused-job : {job answers listing answers′ listing′ : List ℕ} {r : Ou
     (answers′ ≡ answers) × (listing′ ≡ listing)
 refused-job (Job.refused is not) other = (refl, refl)
 refused-job (Job.done is runs) other = absurd (other refl)
+
+pub refused-run : {job answers listing answers′ listing′ : List ℕ} {r : ℕ} → RunBy job answers listing r answers′ listing′ →
+    (r ≡ 0 → ⊥) → (answers′ ≡ answers) × (listing′ ≡ listing)
+refused-run (outcome, code, j) other = refused-job j (λ done. other (code ∙ ap code-of done))
 
 -- a record: the nodes kept are the same, and they fix the state
 refused-so-same-nodes : {most : ℕ} {kept kept′ : List Node} {r : Record} {a : Answer} → Answered most kept r a kept′ →

@@ -13,6 +13,8 @@ use Rattle.nodes.specs.declared.Node.{Node}
 use Rattle.types.specs.Closings.{typed}
 use Rattle.types.specs.Answers.{numbers, Below, offered, needs, rules-to}
 use Rattle.types.specs.declared.Answer.{Answer}
+use Rattle.formats.specs.Header.{count}
+use Rattle.jobs.specs.Jobs.{place}
 
 -- DEMAND 1. A refusal is a code other than 0
 abbrev pub Refused : Answer → Type 0
@@ -58,6 +60,9 @@ module _ (kept : List Node) where
     pub general : Principal (built kept .bounds) (rules-of (built kept .rules)) types
     pub shown : l ≡ listing (typed (λ a. chosen (λ free. Ty.one) (types a)) (built kept .arrows))
 
--- DEMAND 3, in a job: the bytes of the m answers from the n-th on
+-- DEMAND 3, in a job: the bytes of the m answers from the n-th on; the last record is of kind 65
 abbrev pub answers-from : ℕ → ℕ → List ℕ → List ℕ
 answers-from n m bytes = take (8 * m) (drop (8 * n) bytes)
+
+abbrev pub ClosesLast : List ℕ → Type 0
+ClosesLast job = (n : ℕ) × (count job ≡ suc n) × (getD job (place n) 0 ≡ 65)
