@@ -50,7 +50,7 @@ module _ (x y : Tables) (same : state-of x ≡ state-of y) where
       let kept : getD (x .live) 2 0 ≡ getD (y .live) 2 0 = ap (λ (s : State). s .kept) same in
       all-three (x .live) long ∙ (λ i. entries i ∷ links i ∷ kept i ∷ []) ∙ sym (all-three (y .live) also)
 
-  same-tables : Sized x → Sized y → x ≡ y
+  pub same-tables : Sized x → Sized y → x ≡ y
   same-tables long also =
       let rows : x .rows ≡ y .rows = same-columns most-entries (x .rows) (y .rows) (long .four-an-entry) (also .four-an-entry) columns in
       let live : x .live ≡ y .live = counts (long .counts) (also .counts) in

@@ -1,0 +1,11 @@
+pub mod Refusals
+pub mod Clashes
+pub mod Moving
+pub mod Targets
+pub mod Closings
+pub mod Chained
+pub mod Meanings
+pub mod Rooms
+pub mod JobAnswers
+pub mod Once
+pub mod Demands
