@@ -16,7 +16,7 @@ use Rattle.typing.specs.Endless.{Endless}
 use Rattle.typing.specs.Listing.{TypeArrow, types-of, listing}
 use Rattle.nodes.specs.Kept.{source-at, target-at}
 use Rattle.closing.specs.Closings.{from-to, Typed, ClosedBy}
-use Rattle.closing.specs.declared.Closing.the-variants.{Types, Endless as NoTypes}
+use Rattle.closing.specs.declared.Found.the-variants.{Types, Endless as NoTypes}
 use Rattle.nodes.specs.Layout.{rules-of}
 use Rattle.nodes.specs.declared.Node.{Node}
 use Rattle.nodes.specs.declared.Record.the-variants.{Close}

@@ -46,8 +46,7 @@ module _ {most rows : ℕ} {X In Out : Type 0} {Whole : X → Type 0} {holds : X
       let m = c .means a o in
       let k = c .means b o in
       let (answer, state) = called-once (m .called) (k .called) in
-      let listing = lists-once (m .lists) (k .lists) in
-      (
+      let listing = lists-once (m .lists) (k .lists) in (
         m .shown ∙ (λ j. c .shows i (said (answer j) (listing j))) ∙ sym (k .shown),
         c .fixed (c .stays w o a) (c .stays w o b) state,
       )
@@ -102,11 +101,13 @@ module _ {most rows : ℕ} {X In Out : Type 0} {Whole : X → Type 0} {holds : X
         let r′ = first-ran f′ h′ in
         let rows = c .long (r .whole) ∙ sym (c .long (r′ .whole)) in
         let held = same-nodes-same-state (r .opened) (r′ .opened) (keeps r k ∙ sym (keeps r′ k′)) rows in
-        let same : y ≡ _ = c .fixed (r .whole) (r′ .whole) held in
-        (same, record {
-          later = λ {is = is} {os′ = os′} {y′ = z′} a b.
-              same-chain (r .whole) (r .opened) a (subst (λ x. Chain Step x is os′ z′) (sym same) b);
-        })
+        let same : y ≡ _ = c .fixed (r .whole) (r′ .whole) held in (
+          same,
+          record {
+            later = λ {is = is} {os′ = os′} {y′ = z′} a b.
+                same-chain (r .whole) (r .opened) a (subst (λ x. Chain Step x is os′ z′) (sym same) b);
+          },
+        )
 
     pub chains-meet-demand-3 : Demand3 most Fresh Step asks
     chains-meet-demand-3 = record {

@@ -167,10 +167,9 @@ module _ {job answers listing answers₁ listing₁ job′ answers′ listing′
   pub later-listing : 0 < length later → ClosesLast job → ClosesLast job′ →
       (l : List ℕ) × (listing₁ ≡ over l listing) × (listing₂ ≡ over l listing′)
   later-listing some closes closes′ =
-      let same = late-alike (w .parts) still (w′ .parts) .1 in
-      (
+      let same = late-alike (w .parts) still (w′ .parts) .1 in (
         or-none (getD (w .parts .listed-late) (length later - 1) []),
         w .numbers closes some,
         w′ .numbers closes′ some
-        ∙ ap (λ (ls : List (List ℕ)). over (or-none (getD ls (length later - 1) [])) listing′) (sym same),
+            ∙ ap (λ (ls : List (List ℕ)). over (or-none (getD ls (length later - 1) [])) listing′) (sym same),
       )

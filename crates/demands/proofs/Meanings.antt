@@ -27,7 +27,7 @@ use Rattle.runs.specs.Putting.{Leaves}
 use Rattle.runs.proofs.Leaving.{Whole, closing-whole, shown-whole}
 use Rattle.calls.specs.Values.{state-of}
 use Rattle.calls.specs.declared.Owned.{Owned as Value}
-use Rattle.tsarovima_c.specs.Lent.{Tables, Sized, OpenedBy, lent, RecordedBy}
+use Rattle.tsarovima_c.specs.Lent.{Tables, Sized, OpenedBy, RecordedBy}
 use Rattle.tsarovima_c.specs.Lent as Lent
 use Rattle.tsarovima_c.proofs.Once.{same-tables}
 use Rattle.demands.specs.Chains.{Chain, Demand3}
@@ -78,11 +78,13 @@ lent-runs o Chain.ends = (o, Runs.ends)
 lent-runs {most} o (Chain.goes {i = r} a f) =
     let m = lent-means a o in
     let (last, runs) = lent-runs (m .called .after) f in
-    let is = sym (m .shown) in
-    (last, Runs.goes
-    (subst (λ (x : Said). Answered most (o .nodes) r (x .answer) (m .called .after .nodes)) is (m .called .answered))
-    (subst (λ (x : Said). Lists (o .nodes) r (x .listing)) is (m .lists))
-    runs)
+    let is = sym (m .shown) in (
+      last,
+      Runs.goes
+          (subst (λ (x : Said). Answered most (o .nodes) r (x .answer) (m .called .after .nodes)) is (m .called .answered))
+          (subst (λ (x : Said). Lists (o .nodes) r (x .listing)) is (m .lists))
+          runs,
+    )
 
 pub lent-calls : (most rows : ℕ) →
     RecordCalls most rows (λ s. limit (s .classes) ≡ rows) (λ s. s) (LentCall most) (λ r. r)
@@ -160,7 +162,7 @@ host-means : {x y : Tables} {bytes : List ℕ} {out : Read} → HostCall x bytes
 host-means (HostCall.put {is = is} {bytes = bytes} (RecordedBy.done long sized f)) o =
     let p = f o in
     let bytes-read =
-    ap (λ (bs : List ℕ). read bytes (lent (is .tables) (is .work) (is .listing) bs) .answer) (p .written) in
+    ap (λ (bs : List ℕ). read bytes (Lent.lent (is .tables) (is .work) (is .listing) bs) .answer) (p .written) in
     let numbers-read = listing-read (p .leaves) in
     record {
       says = said (p .answer) (p .leaves .listed);

@@ -45,8 +45,8 @@ opened-inside {s = s} o =
     let t = s .classes in
     let at : (a : ℕ) → Within (t .entries) (bound (bounds t) a) =
     λ a. by-cases (decLt a (t .entries))
-        (λ h. rw (bound-given t a h) (given-within (made-good (known .stands .made) .forest) a h))
-        (λ past. rw (bound-past t a (omega (arith, past))) Within.free) in
+    (λ h. rw (bound-given t a h) (given-within (made-good (known .stands .made) .forest) a h))
+    (λ past. rw (bound-past t a (omega (arith, past))) Within.free) in
     subst Inside (known .program-is) (record {
       bounds = λ a. rw (← known .entries-are, ← known .bounds-are) (at a);
       rules = λ r m. rw (← known .entries-are) (known .stands .named r m);

@@ -7,10 +7,10 @@ use Rattle.tsarovima.proofs.page.text.Statement.{statement}
 use Rattle.tsarovima.proofs.page.text.Tie as tie
 
 abbrev Inv-loop : tie.InvT-loop
-Inv-loop page₀ words place₀ i₀ page place i = length page ≡ length page₀
+Inv-loop page₀ from words place₀ i₀ page place i = length page ≡ length page₀
 
 abbrev μ-loop : tie.MeasureT-loop
-μ-loop page₀ words place₀ i₀ page place i = length words - i
+μ-loop page₀ from words place₀ i₀ page place i = length words - i
 
 loop-holds : tie.Need-loop-holds Inv-loop μ-loop
 loop-holds c = search needs

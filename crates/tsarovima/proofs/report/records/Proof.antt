@@ -7,10 +7,10 @@ use Rattle.tsarovima.proofs.report.records.Statement.{statement}
 use Rattle.tsarovima.proofs.report.records.Tie as tie
 
 abbrev Inv-loop : tie.InvT-loop
-Inv-loop page₀ records answers count place₀ i₀ page place i = length page ≡ length page₀
+Inv-loop page₀ from records answers count place₀ i₀ page place i = length page ≡ length page₀
 
 abbrev μ-loop : tie.MeasureT-loop
-μ-loop page₀ records answers count place₀ i₀ page place i = count - i
+μ-loop page₀ from records answers count place₀ i₀ page place i = count - i
 
 loop-holds : tie.Need-loop-holds Inv-loop μ-loop
 loop-holds c = search needs
