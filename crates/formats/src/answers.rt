@@ -3,41 +3,56 @@
 use types::Answer;
 ghost use mathlib.Core.Path.{_≡_};
 ghost use mathlib.Core.List.{_++_};
-ghost use Prim.Native.Nat.{_+_, _/_, _%_, _^_, _≤_, _<_};
+ghost use Prim.Native.Nat.{_+_, _/_, _%_, _≤_};
 ghost use lib.ListN.{length, set, take, drop};
 ghost use Rattle.types.specs.Answers.{numbers};
 ghost use Rattle.formats.specs.Bytes.{answer-bytes};
 
-// The three numbers of an answer.
-struct Fields {
-    code: u16,
-    first: u16,
-    second: u16,
-}
-
-fn three(code: u16, first: u16, second: u16) -> Fields
-    ensures { λ r. ⌜ (r .code ≡ code) × (r .first ≡ first) × (r .second ≡ second) × (r .second < 2 ^ 16) ⌝ }
+fn code(answer: Answer) -> u16
+    ensures { λ r. ⌜ r ≡ numbers answer .code ⌝ }
 {
-    Fields {
-        code,
-        first,
-        second,
+    match answer {
+        Answer::Kept(_, _) => 0,
+        Answer::TakenBack(_) => 0,
+        Answer::Closed(_, _) => 0,
+        Answer::Malformed => 1,
+        Answer::NoChild => 2,
+        Answer::Full => 3,
+        Answer::Clashes(_) => 4,
+        Answer::Endless(_) => 5,
+        Answer::TooFar(_) => 6,
     }
 }
 
-fn fields_of(answer: Answer) -> Fields
-    ensures { λ r. ⌜ (r .code ≡ numbers answer .code) × (r .first ≡ numbers answer .first) × (r .second ≡ numbers answer .second) × (r .second < 2 ^ 16) ⌝ }
+fn first(answer: Answer) -> u16
+    ensures { λ r. ⌜ r ≡ numbers answer .first ⌝ }
 {
     match answer {
-        Answer::Kept(n, joins) => three(0, n, joins),
-        Answer::TakenBack(n) => three(0, n, 0),
-        Answer::Closed(n, types) => three(0, n, types),
-        Answer::Malformed => three(1, 0, 0),
-        Answer::NoChild => three(2, 0, 0),
-        Answer::Full => three(3, 0, 0),
-        Answer::Clashes(rule) => three(4, rule, 0),
-        Answer::Endless(n) => three(5, n, 0),
-        Answer::TooFar(n) => three(6, n, 0),
+        Answer::Kept(n, _) => n,
+        Answer::TakenBack(n) => n,
+        Answer::Closed(n, _) => n,
+        Answer::Malformed => 0,
+        Answer::NoChild => 0,
+        Answer::Full => 0,
+        Answer::Clashes(rule) => rule,
+        Answer::Endless(n) => n,
+        Answer::TooFar(n) => n,
+    }
+}
+
+fn second(answer: Answer) -> u16
+    ensures { λ r. ⌜ r ≡ numbers answer .second ⌝ }
+{
+    match answer {
+        Answer::Kept(_, joins) => joins,
+        Answer::TakenBack(_) => 0,
+        Answer::Closed(_, types) => types,
+        Answer::Malformed => 0,
+        Answer::NoChild => 0,
+        Answer::Full => 0,
+        Answer::Clashes(_) => 0,
+        Answer::Endless(_) => 0,
+        Answer::TooFar(_) => 0,
     }
 }
 
@@ -55,9 +70,8 @@ pub fn write(bytes: &mut [u8], at: usize, answer: Answer)
     requires { ⌜ at + 8 ≤ length (now bytes) ⌝ }
     ensures { λ _. ⌜ now (bytes .exit) ≡ take at (now (bytes .entry)) ++ answer-bytes answer ++ drop (at + 8) (now (bytes .entry)) ⌝ }
 {
-    let says = fields_of(answer);
-    write_two(bytes, at, says.code);
-    write_two(bytes, at + 2, says.first);
-    write_two(bytes, at + 4, says.second);
+    write_two(bytes, at, code(answer));
+    write_two(bytes, at + 2, first(answer));
+    write_two(bytes, at + 4, second(answer));
     write_two(bytes, at + 6, 0);
 }

@@ -78,14 +78,24 @@ fn node(kind: u8, a: u16, b: u16) -> Asks
     }
 }
 
+// A take-back or a closing.
+fn request(kind: u8, a: u16, b: u16) -> Asks
+    requires { ⌜ (64 ≤ kind) × (kind ≤ 65) ⌝ }
+    ensures { λ r. ⌜ r ≡ asks (by-kind kind a b) ⌝ }
+{
+    match kind {
+        64 => unless(b, Asks::TakeBack),
+        _ => unless(a, unless(b, Asks::Close)),
+    }
+}
+
 fn by_kind(kind: u8, a: u16, b: u16) -> Asks
     ensures { λ r. ⌜ r ≡ asks (by-kind kind a b) ⌝ }
 {
     match kind {
         1..=16 => node(kind, a, b),
-        64 => unless(b, Asks::TakeBack),
-        65 => unless(a, unless(b, Asks::Close)),
-        0 | 17..=63 | 66..=255 => Asks::Malformed,
+        64..=65 => request(kind, a, b),
+        _ => Asks::Malformed,
     }
 }
 
