@@ -219,7 +219,19 @@ fn take_turn(
     if let Meeting::Apart = met {
         return Turn::Clash;
     }
-    union_bound::link(parent, rank, rows, trail, links, two);
+    let higher = union_bound::raised(rank, two);
+    let shape = union_bound::shows(rows, two);
+    union_bound::link(
+        parent,
+        rank,
+        rows,
+        trail,
+        links,
+        two.below,
+        two.stands,
+        higher,
+        shape,
+    );
     Turn::Goes(push_parts(pending, top, met), links + 1)
 }
 
