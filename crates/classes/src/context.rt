@@ -9,17 +9,19 @@ use super::row::PAIR;
 use super::row::RIGHT;
 use super::row::ROW;
 use super::row::SHAPE;
+use super::row::cell;
 use super::union_bound;
+use super::union_bound::Ranked;
 ghost use mathlib.Core.Path.{_≡_};
 ghost use Prim.Native.Nat.{ℕ, min, _+_, _*_, _≤_, _<_};
 ghost use mathlib.Core.List.{List};
 ghost use lib.ListN.{length, getD};
 ghost use Rattle.classes.specs.Table.{Table, kind-of, left-of, right-of};
 ghost use Rattle.classes.specs.Columns.{shapes, height, laid, lent, given-row};
-ghost use Rattle.classes.specs.Merging.{meeting, shown-by, upper-in, lower-in};
+ghost use Rattle.classes.specs.Merging.{meeting};
 ghost use Rattle.classes.specs.Made.{Made};
 ghost use Rattle.classes.specs.Promises.{AddedBy, entries-then, Joining, made-links};
-ghost use Rattle.classes.specs.Turning.{waiting-in, pushed, PartsPushed, Linkable, Linking, Turnable, Turned, links-then, waiting-then};
+ghost use Rattle.classes.specs.Turning.{Shows, waiting-in, pushed, PartsPushed, Turnable, Turned, links-then, waiting-then};
 
 // What adding an entry answers: its number, or that no row is left.
 pub enum Added {
@@ -46,12 +48,6 @@ struct Given {
     kind: u16,
     left: u16,
     right: u16,
-}
-
-// Two roots in the order in which they are linked.
-struct Ranked {
-    stands: u16,
-    below: u16,
 }
 
 // What one turn of a join leaves: the pairs waiting and the links made, or a clash.
@@ -115,13 +111,11 @@ fn bound(rows: &[u16], a: u16) -> Bound
     requires { ⌜ a < height (now rows) ⌝ }
     ensures { λ r. ⌜ r ≡ given-row (now (rows .entry)) a ⌝ }
 {
-    let row = ROW * (a as usize);
-    let k = rows[row + KIND];
-    match k {
+    match cell(rows, a, KIND) {
         0 => Bound::Free,
         1 => Bound::Unit,
-        2 => Bound::Sum(rows[row + LEFT], rows[row + RIGHT]),
-        _ => Bound::Product(rows[row + LEFT], rows[row + RIGHT]),
+        2 => Bound::Sum(cell(rows, a, LEFT), cell(rows, a, RIGHT)),
+        _ => Bound::Product(cell(rows, a, LEFT), cell(rows, a, RIGHT)),
     }
 }
 
@@ -130,7 +124,7 @@ pub fn shown(rows: &[u16], root: u16) -> Bound
     requires { ⌜ (root < height (now rows)) × (getD (shapes (now rows)) root 0 < height (now rows)) ⌝ }
     ensures { λ r. ⌜ r ≡ given-row (now (rows .entry)) (getD (shapes (now (rows .entry))) root 0) ⌝ }
 {
-    let s = rows[ROW * (root as usize) + SHAPE];
+    let s = cell(rows, root, SHAPE);
     bound(rows, s)
 }
 
@@ -141,15 +135,18 @@ fn form(k: u16) -> u16
     if k < 3 { k } else { 3 }
 }
 
-// What follows when one class has the bounds of both entries, the standing class's first.
-fn meet(rows: &[u16], own: u16, other: u16) -> Meeting
-    requires { ⌜ (own < height (now rows)) × (other < height (now rows)) ⌝ }
-    ensures { λ r. ⌜ r ≡ meeting (given-row (now (rows .entry)) own) (given-row (now (rows .entry)) other) ⌝ }
+// What follows when one class has the bounds that two roots show, the standing one's first.
+fn meet(rows: &[u16], two: Ranked) -> Meeting
+    requires { ⌜ Shows (now rows) (two .stands) × Shows (now rows) (two .below) ⌝ }
+    ensures { λ r. ⌜ (
+        let own = getD (shapes (now (rows .entry))) (two .stands) 0 in
+        let other = getD (shapes (now (rows .entry))) (two .below) 0 in
+        r ≡ meeting (given-row (now (rows .entry)) own) (given-row (now (rows .entry)) other)) ⌝ }
 {
-    let one = ROW * (own as usize);
-    let two = ROW * (other as usize);
-    let k = rows[one + KIND];
-    let l = rows[two + KIND];
+    let own = cell(rows, two.stands, SHAPE);
+    let other = cell(rows, two.below, SHAPE);
+    let k = cell(rows, own, KIND);
+    let l = cell(rows, other, KIND);
     if k == 0 {
         return Meeting::Agree;
     }
@@ -162,34 +159,12 @@ fn meet(rows: &[u16], own: u16, other: u16) -> Meeting
     if k == 1 {
         return Meeting::Agree;
     }
-    Meeting::Parts(rows[one + 1], rows[two + 1], rows[one + 2], rows[two + 2])
-}
-
-// The entry whose bound the joined class shows: the standing class's own, or the other's if that one is free.
-fn shows(rows: &[u16], own: u16, other: u16) -> u16
-    requires { ⌜ own < height (now rows) ⌝ }
-    ensures { λ r. ⌜ r ≡ shown-by (given-row (now (rows .entry)) own) own other ⌝ }
-{
-    let kind = rows[ROW * (own as usize) + KIND];
-    if kind == 0 { other } else { own }
-}
-
-// Of two roots, the one that stands and the one that goes below it: the higher rank stands, on equal ranks the first.
-fn by_rank(rank: &[u16], a: u16, b: u16) -> Ranked
-    requires { ⌜ (a < length (now rank)) × (b < length (now rank)) ⌝ }
-    ensures { λ r. ⌜ (r .stands ≡ upper-in (now (rank .entry)) a b) × (r .below ≡ lower-in (now (rank .entry)) a b) ⌝ }
-{
-    if rank[a as usize] < rank[b as usize] {
-        Ranked {
-            stands: b,
-            below: a,
-        }
-    } else {
-        Ranked {
-            stands: a,
-            below: b,
-        }
-    }
+    Meeting::Parts(
+        cell(rows, own, LEFT),
+        cell(rows, other, LEFT),
+        cell(rows, own, RIGHT),
+        cell(rows, other, RIGHT),
+    )
 }
 
 // Puts a pair on the table of pairs still to join.
@@ -217,47 +192,7 @@ fn push_parts(pending: &mut [u16], waiting: usize, met: Meeting) -> usize
     }
 }
 
-// Makes two classes one, the second below the first, and puts their parts on the table.
-fn merge(
-    parent: &mut [u16],
-    rank: &mut [u16],
-    rows: &mut [u16],
-    trail: &mut [u16],
-    pending: &mut [u16],
-    links: u16,
-    waiting: usize,
-    stands: u16,
-    below: u16,
-) -> Turn
-    requires { ⌜ ((e : ℕ) × Linkable (laid (now parent) (now rank) (now rows) (now trail) e links) (now pending) waiting stands below) ⌝ }
-    ensures { λ r. ⌜ ((e : ℕ) →
-        let was = laid (now (parent .entry)) (now (rank .entry)) (now (rows .entry)) (now (trail .entry)) e links in
-        let is = laid (now (parent .exit)) (now (rank .exit)) (now (rows .exit)) (now (trail .exit)) e (links-then links r) in
-        Linking was (now (pending .entry)) waiting stands below r is (now (pending .exit))) ⌝ }
-{
-    let own = rows[ROW * (stands as usize) + SHAPE];
-    let other = rows[ROW * (below as usize) + SHAPE];
-    let higher = union_bound::raised(rank[below as usize], rank[stands as usize]);
-    let shape_then = shows(rows, own, other);
-    let met = meet(rows, own, other);
-    if let Meeting::Apart = met {
-        return Turn::Clash;
-    }
-    union_bound::link(
-        parent,
-        rank,
-        rows,
-        trail,
-        links,
-        below,
-        stands,
-        higher,
-        shape_then,
-    );
-    Turn::Goes(push_parts(pending, waiting, met), links + 1)
-}
-
-// One turn of a join: takes the last pair and makes its two classes one.
+// One turn of a join: takes the last pair and makes its two classes one, whose parts then wait.
 fn take_turn(
     parent: &mut [u16],
     rank: &mut [u16],
@@ -276,25 +211,28 @@ fn take_turn(
         Turnable was (now (pending .entry)) waiting → Turned was waited waiting r is waits) ⌝ }
 {
     let top = waiting - 1;
-    let a = union_bound::root(parent, pending[PAIR * top]);
-    let b = union_bound::root(parent, pending[PAIR * top + 1]);
-    if a == b {
+    let two = union_bound::top_roots(parent, rank, pending, top);
+    if two.stands == two.below {
         return Turn::Goes(top, links);
     }
-    let two = by_rank(rank, a, b);
-    let stands = two.stands;
-    let below = two.below;
-    merge(
+    let met = meet(rows, two);
+    if let Meeting::Apart = met {
+        return Turn::Clash;
+    }
+    let higher = union_bound::raised(rank, two);
+    let shape = union_bound::shows(rows, two);
+    union_bound::link(
         parent,
         rank,
         rows,
         trail,
-        pending,
         links,
-        top,
-        stands,
-        below,
-    )
+        two.below,
+        two.stands,
+        higher,
+        shape,
+    );
+    Turn::Goes(push_parts(pending, top, met), links + 1)
 }
 
 // Joins the classes of a and b, and all that follows from it.
