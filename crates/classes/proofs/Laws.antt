@@ -6,7 +6,7 @@ pub use Rattle.classes.proofs.Judging.{fresh-stands, made-stands, added
 pub use Rattle.classes.proofs.Unique.{one-answer-to-add, one-answer-to-join, one-answer-to-undo}
 pub use Rattle.classes.proofs.GivenBack.{undo-gives-back-the-mark}
 -- a table that the calls made is a forest, and keeps its rows
-pub use Rattle.classes.proofs.Closing.{made-good}
+pub use Rattle.classes.proofs.Closure.{made-good}
 pub use Rattle.classes.proofs.GivenBack.{run-forest, run-links}
 -- the way up from every entry ends at a root, and a root's row names an entry
 pub use Rattle.classes.proofs.Premises.{made-rooted, root-shaped, shape-given}
