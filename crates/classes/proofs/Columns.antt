@@ -8,8 +8,7 @@ use native.Mathlib.Decide.{ℕ-discrete}
 use native.Mathlib.Omega.{arith}
 use lib.ListN.{length, getD, set, replicate, length-set, length-replicate, getD-replicate}
 use lib.Seq.{getD-set-same, getD-set-other, ext-getD}
-use Rattle.classes.specs.Table.{bound-of}
-use Rattle.classes.specs.Columns.{width, kind-at, left-at, right-at, listed, column, height, given-row}
+use Rattle.classes.specs.Columns.{width, listed, column, height}
 
 length-listed : (n : ℕ) (f : ℕ → ℕ) → length (listed n f) ≡ n
 unfolding listed
@@ -42,10 +41,6 @@ in-rows rows i k h small = omega arith
 
 pub same-long : (k : ℕ) (these those : List ℕ) → length these ≡ length those → length (column k these) ≡ length (column k those)
 same-long k these those e = omega (arith, length-column k these, length-column k those)
-
-pub given-cells : (rows : List ℕ) (a : ℕ) → a < height rows →
-    given-row rows a ≡ bound-of (getD rows (width * a + kind-at) 0) (getD rows (width * a + left-at) 0) (getD rows (width * a + right-at) 0)
-given-cells rows a h = rw (cell kind-at rows a h, cell left-at rows a h, cell right-at rows a h)
 
 -- a store to the list is a store to its column, and leaves the others
 module _ (rows : List ℕ) (i k v : ℕ) (small : k < width) where

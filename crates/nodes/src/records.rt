@@ -78,24 +78,25 @@ fn node(kind: u8, a: u16, b: u16) -> Asks
     }
 }
 
-// A take-back or a closing.
+// Take-back, closing and the unknown.
 fn request(kind: u8, a: u16, b: u16) -> Asks
-    requires { ⌜ (64 ≤ kind) × (kind ≤ 65) ⌝ }
+    requires { ⌜ 17 ≤ kind ⌝ }
     ensures { λ r. ⌜ r ≡ asks (by-kind kind a b) ⌝ }
 {
     match kind {
         64 => unless(b, Asks::TakeBack),
-        _ => unless(a, unless(b, Asks::Close)),
+        65 => unless(a, unless(b, Asks::Close)),
+        _ => Asks::Malformed,
     }
 }
 
+// Nodes and requests. 0 is unknown too: `node` has it in its last arm, so that one test leads to all nodes.
 fn by_kind(kind: u8, a: u16, b: u16) -> Asks
     ensures { λ r. ⌜ r ≡ asks (by-kind kind a b) ⌝ }
 {
     match kind {
-        1..=16 => node(kind, a, b),
-        64..=65 => request(kind, a, b),
-        _ => Asks::Malformed,
+        0..=16 => node(kind, a, b),
+        17..=255 => request(kind, a, b),
     }
 }
 

@@ -5,7 +5,7 @@ use mathlib.Core.List.{List}
 use Prim.Native.Nat.{ℕ, zero-le}
 use native.Mathlib.Decide.{decLe}
 use native.Mathlib.Omega.{arith}
-use Rattle.texts.specs.Texts.{AtFront, Written}
+use Rattle.texts.specs.Texts.{Written}
 use Rattle.texts.specs.Texts.AtFront.{fits, no-room}
 use Rattle.texts.specs.Texts.Written.{written, no-rule}
 use Rattle.texts.specs.declared.Text.{Text}

@@ -1,8 +1,7 @@
 -- `texts::write` meets its contract: each arm's text is what `put` copied; the last arm's number is none of 1 to 7.
 use mathlib.Core.Path.{_≡_}
-use mathlib.Core.List.{List, _++_}
+use mathlib.Core.List.{List}
 use Prim.Native.Nat.{ℕ, _≤_, suc-le-suc}
-use lib.ListN.{length, drop}
 use lib.Dec.{lit≤}
 use Rattle.texts.specs.Texts.{text, AtFront, Written}
 use Rattle.texts.specs.Texts.Written.{written, no-rule}

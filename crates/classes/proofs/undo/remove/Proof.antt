@@ -1,7 +1,7 @@
 -- `classes::undo::remove` meets its contract: the row written anew with 0.
 use mathlib.Core.Path.{refl}
 use mathlib.Core.List.{[], _∷_}
-use Prim.Native.Nat.{ℕ, _-_, _<_}
+use Prim.Native.Nat.{_-_, _<_}
 use native.Mathlib.Omega.{arith}
 use lib.ListN.{length-set}
 use Rattle.classes.specs.Columns.{kind-at, left-at, right-at, shape-at, height}

@@ -1,6 +1,6 @@
 -- `combinators::each::disconnect` meets its contract: two free entries, then the products; and both rules are left.
 use mathlib.Core.Path.{refl}
-use mathlib.Core.List.{List, [], _∷_, _++_}
+use mathlib.Core.List.{List, [], _∷_}
 use Prim.Native.Nat.{_+_}
 use Rattle.classes.specs.declared.Bound.{Bound}
 use Rattle.classes.specs.declared.Bound.the-variants.{Free, Product}

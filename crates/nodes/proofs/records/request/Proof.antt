@@ -1,17 +1,23 @@
--- `nodes::records::request` meets its contract: of 64 and 65 the last arm has 65.
-use mathlib.Core.Path.{_≡_, refl}
+-- `nodes::records::request` meets its contract: past the list `nodes` the kind decides `other`.
+use mathlib.Core.Path.{_≡_, refl, sym, ap, _∙_}
+use mathlib.Core.Logic.{if-neg}
 use Prim.Native.Nat.{ℕ, _≤_}
 use native.Mathlib.Decide.{ℕ-discrete}
-use native.Mathlib.Nat.{le-antisymm}
-use native.Mathlib.Omega.{arith}
-use Rattle.nodes.specs.Records.{spare, nodes}
-use Rattle.nodes.specs.declared.Record.the-variants.{TakeBack, Close}
+use lib.ListN.{List·getD-eq-default}
+use Rattle.nodes.specs.Records.{spare, nodes, other, by-kind}
+use Rattle.nodes.specs.Coded.{asks}
+use Rattle.nodes.specs.declared.Record.{Record}
+use Rattle.nodes.specs.declared.Record.the-variants.{TakeBack, Close, Malformed}
 use borrow.Author.Needs.{needs}
 use Rattle.nodes.proofs.records.request.Statement.{statement}
 use Rattle.nodes.proofs.records.request.Tie as tie
 
-is-65 : (kind : ℕ) → 64 ≤ kind → kind ≤ 65 → (kind ≡ 64 → ⊥) → kind ≡ 65
-is-65 kind from to not = omega (arith, from, to, not)
+unknown-kind : (kind a b : ℕ) → 17 ≤ kind → (kind ≡ 64 → ⊥) → (kind ≡ 65 → ⊥) → by-kind kind a b ≡ Malformed
+unfolding nodes
+unknown-kind kind a b past not-64 not-65 =
+    ap (λ (f : ℕ → ℕ → Record). f a b) (List·getD-eq-default nodes (other kind) past)
+    ∙ if-neg (ℕ-discrete kind 64) not-64 _ _
+    ∙ if-neg (ℕ-discrete kind 65) not-65 _ _
 
 unless-requires : tie.Need-unless-requires
 unless-requires c κs = search needs
@@ -29,10 +35,13 @@ returns c = rw (c .before .match .keys1) (c .unless .ensures (TakeBack _) refl)
 returns-2 : tie.Need-returns-2
 unfolding nodes ℕ-discrete
 returns-2 c =
-    let start = c .before .before .before in
-    rw (is-65 (start .args .kind) (start .pre .0) (start .pre .1) (c .before .before .match .rest .1))
-    (c .unless3 .ensures (spare (start .args .b) Close) (c .before .unless2 .ensures Close refl))
+    rw (c .before .before .match .keys2)
+    (c .unless3 .ensures (spare (c .before .before .before .args .b) Close) (c .before .unless2 .ensures Close refl))
+
+returns-3 : tie.Need-returns-3
+returns-3 c = let rest = c .match .rest in ap asks (sym (unknown-kind _ _ _ (c .before .pre) (rest .0 .1) (rest .1)))
 
 pub request-spec : {M : Type 1} → statement M
 request-spec =
-    tie.close (tie.spec unless-requires unless-requires-2 unless-requires-3 returns returns-2)
+    tie.close
+    (tie.spec unless-requires unless-requires-2 unless-requires-3 returns returns-2 returns-3)
