@@ -28,6 +28,7 @@ ghost use Rattle.types.specs.Calls.{Called};
 ghost use Rattle.calls.specs.Handed.{Handed};
 ghost use Rattle.nodes.specs.declared.Record.the-variants.{Offer, TakeBack, Close};
 
+// The state: the tables as arrays, and how much of them is in use.
 pub struct Owned {
     pub parent: [u16; ENTRIES],
     pub rank: [u16; ENTRIES],

@@ -1,5 +1,5 @@
-// An offer: the one call that adds entries and joins classes. It sees of the class table only what the contracts of `classes` promise, and of
-// the combinators only that `combinators` enters each node's row of document 01's table. What it leaves of the state is for `types`.
+// An offer: the one call that adds entries and joins classes. It sees of the class table only what the contracts of `classes`
+// promise, and of the combinators only that `combinators` enters each node's row of document 01's table.
 
 use classes::Mark;
 use classes::context;

@@ -1,5 +1,5 @@
-// Records put one after the other, from their bytes: a job's, or one that a host lends. The tables are lent in the core's order, then what is listed, the bytes and the
-// answers.
+// Records put one after the other, from their bytes: a job's, or one that a host lends. The tables are lent in the core's
+// order, then what is listed, the bytes and the answers.
 
 use formats::answers;
 use formats::listing;
