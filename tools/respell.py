@@ -17,6 +17,7 @@ NAME = r"(?<![" + LETTERS + r"-])[A-Za-z_][" + LETTERS + r"]*(?:-[" + LETTERS + 
 WORD = r"(?<![" + LETTERS + r"-])[A-Za-z_][" + LETTERS + r"-]*"
 USE = re.compile(r"^\s*(?:pub )?use ([\w.\u25cc\u00b7]+)\.\{([^}]*)\}", re.M | re.S)
 BY_HAND = {"Ty-discrete": "Ty-discrete", "getD-mem": "get_or_mem", "getD-listed": "get_or_listed"}
+BY_PATH = {"not-nil"}  # the library's, named by its path
 BOOKS = glob.glob("crates/*/specs/*.antt") + glob.glob("crates/*/proofs/*.antt")
 
 
@@ -36,7 +37,7 @@ def own_names():
                 given |= {n.strip().split(" as ")[0] for n in names.split(",")}
         used |= set(re.findall(NAME, text))
         plain |= set(re.findall(WORD, text))
-    turned = {n: BY_HAND.get(n, n.replace("-", "_")) for n in used - given}
+    turned = {n: BY_HAND.get(n, n.replace("-", "_")) for n in used - given - BY_PATH}
     turned = {n: to for n, to in turned.items() if n != to}
     for n, to in turned.items():
         if to in plain or sum(1 for other in turned.values() if other == to) > 1:

@@ -1,6 +1,8 @@
 // The record calls on a state by value (`calls`), from opening on: nodes that are kept, a clash, closings, take-backs. A line is
 // printed for each answer, and a closing's listing under it; `stdout` has what document 01 answers.
 
+#![tactic(auto)]
+
 mod say;
 
 ghost use Rattle.types.specs.States.{Opened};

@@ -1,6 +1,8 @@
 // The record calls on a state by value: the tables as arrays of numbers with their live counts, for at most 1,024 nodes.
 // Each call lends the arrays to the core once and builds the state again. A job uses the core itself, which copies nothing.
 
+#![tactic(auto)]
+
 ghost use Rattle.std.specs.Prelude.{◌≡◌, [], ◌≤◌, length, set};
 ghost use Rattle.nodes.specs.Layout.{word_of};
 ghost use Rattle.nodes.specs.Coded.{node_of, Regular};

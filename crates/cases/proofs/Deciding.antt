@@ -18,7 +18,7 @@ one_below next x xs (yes low) (no past) = no (λ b. past (λ i m. b i (Memᴰ.ta
 one_below next x xs (yes low) (yes rest) = yes (both_below low rest)
 
 abbrev pub each_below : (next : ℕ) (xs : List ℕ) → Dec (EachBelow next xs)
-each_below next [] = yes (λ i m. absurd (Memᴰ.not_nil m))
+each_below next [] = yes (λ i m. absurd (Memᴰ.not-nil m))
 each_below next (x ∷ xs) = one_below next x xs (dec_lt x next) (each_below next xs)
 
 pub not_there : {a x : ℕ} {xs : List ℕ} → (a ≡ x → ⊥) → (Memᴰ a xs → ⊥) → Memᴰ a (x ∷ xs) → ⊥
@@ -31,5 +31,5 @@ one_there a x xs (no other) (yes m) = yes (Memᴰ.tail m)
 one_there a x xs (no other) (no none) = no (not_there other none)
 
 abbrev pub is_there : (a : ℕ) (xs : List ℕ) → Dec (Memᴰ a xs)
-is_there a [] = no (λ m. Memᴰ.not_nil m)
+is_there a [] = no (λ m. Memᴰ.not-nil m)
 is_there a (x ∷ xs) = one_there a x xs (ℕ_discrete a x) (is_there a xs)

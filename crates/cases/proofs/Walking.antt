@@ -71,7 +71,7 @@ module _ {t : Table} {rules : List Rule} (s : Stands t rules) (bottom : ℕ) whe
 
   -- its class is on the path
   path_met : (path : List ℕ) (a : ℕ) → a < t.entries → Came path a → Memᴰ (root t a) path → Endless (bounds t) rules bottom
-  path_met [] a h e m = absurd (Memᴰ.not_nil m)
+  path_met [] a h e m = absurd (Memᴰ.not-nil m)
   path_met (b ∷ rest) a h c m = loop_is_endless c.0 c.1 (forced_root s a h) m
 
   -- both parts of a

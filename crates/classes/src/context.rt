@@ -14,7 +14,7 @@ use super::union_bound::Ranked;
 use super::{Bound, Mark, union_bound};
 
 // What adding an entry answers: its number, or that no row is left.
-#[derive(Drop)]
+#[derive(Clone, Copy)]
 pub enum Added {
     Entry(u16),
     Full,
@@ -22,14 +22,14 @@ pub enum Added {
 
 // What joining two entries answers, with the links that it made: all that follows is joined and the links are the fall in
 // the number of classes, or two different kinds are forced to be equal and the table is for undoing.
-#[derive(Drop)]
+#[derive(Clone, Copy)]
 pub enum Joined {
     Done(u16),
     Clash(u16),
 }
 
 // What two bounds in one class come to: two kinds that differ, nothing further, or two pairs of parts to join.
-#[derive(Drop)]
+#[derive(Clone, Copy)]
 enum Meeting {
     Apart,
     Agree,
@@ -37,7 +37,7 @@ enum Meeting {
 }
 
 // A bound as the numbers of a row.
-#[derive(Drop)]
+#[derive(Clone, Copy)]
 struct Given {
     kind: u16,
     left: u16,
@@ -45,7 +45,7 @@ struct Given {
 }
 
 // What one turn of a join leaves: the pairs waiting and the links made, or a clash.
-#[derive(Drop)]
+#[derive(Clone, Copy)]
 enum Turn {
     Clash,
     Goes(usize, u16),

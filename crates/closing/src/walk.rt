@@ -24,7 +24,7 @@ const OPEN: u16 = 1;
 pub(super) const NUMBERED: u16 = 2;
 
 // What one step leaves: a class that lies inside itself, or how long the path is and how many types there are.
-#[derive(Drop)]
+#[derive(Clone, Copy)]
 pub enum Turn {
     Cycle,
     Goes(u16, u16),
@@ -152,7 +152,7 @@ fn step(
 }
 
 // What a visit leaves: a class that lies inside itself, or how many types there are.
-#[derive(Drop)]
+#[derive(Clone, Copy)]
 pub enum Visited {
     Cycle,
     Done(u16),

@@ -2,6 +2,8 @@
 //
 // entries: entries added a few at a time. each: one function for each combinator.
 
+#![tactic(auto)]
+
 mod each;
 mod entries;
 
@@ -16,7 +18,7 @@ use nodes::arrow::{Adds, Arrow, Rule};
 
 // What a node's entries leave: how many entries there are then, the node's arrow, how many rules are still to be joined, and the
 // first of them.
-#[derive(Drop)]
+#[derive(Clone, Copy)]
 pub struct Placed {
     pub entries: u16,
     pub gives: Arrow,

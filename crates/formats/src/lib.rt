@@ -2,5 +2,7 @@
 //
 // answers: an answer as eight bytes. listing: which listing a job shows.
 
+#![tactic(auto)]
+
 pub mod answers;
 pub mod listing;

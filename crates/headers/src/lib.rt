@@ -1,6 +1,8 @@
 // A job opens with four numbers: format, how many records, where the first begins, the job's length. Whatever they are, and
 // whatever buffers are lent, the job is refused with one code or can be run.
 
+#![tactic(auto)]
+
 ghost use Rattle.std.specs.Prelude.{◌≡◌, ◌+◌, ◌*◌, ◌≤◌, length};
 ghost use Rattle.headers.specs.Header.{four_bytes, judged, code_of};
 
@@ -23,7 +25,7 @@ const OFFSET: usize = 8;
 const TOTAL: usize = 12;
 
 // What becomes of a job.
-#[derive(Drop)]
+#[derive(Clone, Copy)]
 pub enum Outcome {
     Done,
     TooShort,

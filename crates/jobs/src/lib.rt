@@ -1,6 +1,8 @@
 // The job call: any bytes in, every answer and every number of the listing out. It starts from a fresh state, puts the records
 // one after the other to the core of `types` on tables of its own, and copies no table: its cost is that of its records.
 
+#![tactic(auto)]
+
 ghost use Rattle.jobs.specs.Jobs.{Job};
 
 use formats::listing;

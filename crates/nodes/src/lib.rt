@@ -2,12 +2,14 @@
 //
 // records: what 8 bytes ask for. arrow: arrows and rules. kept: what stands where in a kept node's row.
 
+#![tactic(auto)]
+
 pub mod arrow;
 pub mod kept;
 pub mod records;
 
 // A combinator and its children's numbers, in the order of document 01's table; a word's n for Word.
-#[derive(Drop)]
+#[derive(Clone, Copy)]
 pub enum Node {
     Iden,
     Unit,
@@ -28,7 +30,7 @@ pub enum Node {
 }
 
 // A combinator alone, in the same order.
-#[derive(Drop)]
+#[derive(Clone, Copy)]
 pub enum Kind {
     Iden,
     Unit,
@@ -49,7 +51,7 @@ pub enum Kind {
 }
 
 // A node as numbers, which need not be taken apart: its kind and its two fields, 0 where the kind does not use one.
-#[derive(Drop)]
+#[derive(Clone, Copy)]
 pub struct Coded {
     pub kind: Kind,
     pub a: u16,
@@ -57,7 +59,7 @@ pub struct Coded {
 }
 
 // What 8 bytes ask for, as contracts say it.
-#[derive(Drop)]
+#[derive(Clone, Copy)]
 pub enum Record {
     Offer(Node),
     TakeBack(u16),
@@ -66,7 +68,7 @@ pub enum Record {
 }
 
 // What a record asks for, without its numbers.
-#[derive(Drop)]
+#[derive(Clone, Copy)]
 pub enum Asks {
     Offer,
     TakeBack,

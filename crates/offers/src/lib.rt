@@ -1,6 +1,8 @@
 // An offer: the one call that adds entries and joins classes. It sees of the class table only what the contracts of `classes`
 // promise, and of the combinators only that `combinators` enters each node's row of document 01's table.
 
+#![tactic(auto)]
+
 ghost use Rattle.std.specs.Prelude.{◌≡◌, true, false, ℕ, ◌+◌, ◌*◌, ◌≤◌, length, get_or};
 ghost use Rattle.classes.specs.Columns.{laid, lent};
 ghost use Rattle.classes.specs.Promises.{made_links};
@@ -26,7 +28,7 @@ use types::Answer;
 use types::state::{Live, Step};
 
 // What joining a node's rules leaves: the links then, and for a clash the rule's number.
-#[derive(Drop)]
+#[derive(Clone, Copy)]
 pub enum Met {
     All(u16),
     Clash(u16, u16),

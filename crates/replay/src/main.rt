@@ -12,6 +12,8 @@
 // Any other number ends the stream, and so do a job that is refused, since its length is not to be trusted, and a lending of more than
 // there is room for. Nothing is promised of what is written: the gate compares it.
 
+#![tactic(auto)]
+
 mod lending;
 mod plain;
 mod stream;

@@ -1,6 +1,8 @@
 // Records put one after the other, from their bytes: a job's, or one that a host lends. The tables are lent in the core's
 // order, then what is listed, the bytes and the answers.
 
+#![tactic(auto)]
+
 ghost use Rattle.std.specs.Prelude.{◌≡◌, List, ℕ, ◌+◌, ◌*◌, ◌≤◌, length, get_or};
 ghost use Rattle.nodes.specs.Records.{record_at};
 ghost use Rattle.types.specs.Limits.{most_nodes};

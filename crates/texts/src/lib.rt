@@ -1,10 +1,12 @@
 // The rules in words, byte for byte as the Rust's hints have them. Text 4 says "left" where it means right.
 
+#![tactic(auto)]
+
 ghost use Rattle.texts.specs.Texts.{AtFront, Written};
 
 // What writing a rule's text answers: how many bytes it has, and they are written; how many it has, and there is no room for them;
 // or that the number names no rule.
-#[derive(Drop)]
+#[derive(Clone, Copy)]
 pub enum Text {
     Bytes(usize),
     NoRoom(usize),

@@ -1,7 +1,7 @@
 // Reading all that a descriptor has, into a lent array.
 
 // What reading found: so many bytes and then the end, more than the array has room for, or a read that failed.
-#[derive(Drop)]
+#[derive(Clone, Copy)]
 pub enum Ended {
     Whole(usize),
     Longer,

@@ -4,6 +4,8 @@
 //
 // file: reading a job whole. page: the report's bytes, gathered. report: its lines.
 
+#![tactic(auto)]
+
 mod file;
 mod page;
 mod report;

@@ -4,6 +4,8 @@
 // The record calls have one premise: the tables came from tsarovima_open and these calls, and nobody else wrote to them. Every
 // length is looked at first: a wrong one is answered with 1, whatever the tables hold, and leaves all that was lent as it was.
 
+#![tactic(auto)]
+
 ghost use Rattle.std.specs.Prelude.{◌≡◌, length, replicate};
 ghost use Rattle.tsarovima_c.specs.Lent.{RunBy, Denies, Tables, tables, TableLengths, OpenedBy};
 ghost use Rattle.tsarovima_c.specs.Lent.{Lent, lent, RoomLengths, OpenedIfLong, RecordedBy, closing_bytes, TextBy};

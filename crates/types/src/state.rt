@@ -25,7 +25,7 @@ use nodes::kept::{ENTRIES_BEFORE, LINKS_BEFORE, NODE};
 const STANDING: u16 = 33;
 
 // How much of the tables is in use.
-#[derive(Drop)]
+#[derive(Clone, Copy)]
 pub struct Live {
     pub entries: u16,
     pub links: u16,
@@ -33,7 +33,7 @@ pub struct Live {
 }
 
 // What a record leaves: its answer and the counts.
-#[derive(Drop)]
+#[derive(Clone, Copy)]
 pub struct Step {
     pub answer: Answer,
     pub live: Live,

@@ -23,7 +23,7 @@ use Rattle.typing.proofs.Listed.{stands_already, added_at_the_end, with_itself, 
 
 -- whether t is in ts
 stands? : (t : Ty) (ts : List Ty) → Dec (Memᴰ t ts)
-stands? t [] = no Memᴰ.not_nil
+stands? t [] = no Memᴰ.not-nil
 stands? t (x ∷ ts) = by_cases (Ty-discrete t x)
     (λ e. yes (Memᴰ.head e))
     (λ other. by_cases (stands? t ts) (λ m. yes (Memᴰ.tail m)) (λ absent. no (λ m. ⊎_elim other absent (Memᴰ.cases_cons m))))
