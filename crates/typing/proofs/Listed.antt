@@ -10,6 +10,7 @@ use Rattle.typing.specs.Listing.{place_of, with_type, walked, TypeArrow, types_o
 
 -- a type that stands is not added again
 pub stands_already : (ts : List Ty) (t : Ty) → Memᴰ t ts → with_type ts t ≡ ts
+stands_already [] t h = elim h [ ]
 stands_already (x ∷ ts) t (Memᴰ.head e) = if_pos (Ty-discrete x t) (sym e) (x ∷ ts) (x ∷ with_type ts t)
 stands_already (x ∷ ts) t (Memᴰ.tail m) = by_cases (Ty-discrete x t)
     (λ e. if_pos (Ty-discrete x t) e (x ∷ ts) (x ∷ with_type ts t))
@@ -24,12 +25,14 @@ added_at_the_end (x ∷ ts) t absent =
 
 -- a type that stands has a place, and stands in it
 pub place_within : (ts : List Ty) (t : Ty) → Memᴰ t ts → place_of ts t < length ts
+place_within [] t h = elim h [ ]
 place_within (x ∷ ts) t (Memᴰ.head e) = rw (if_pos (Ty-discrete x t) (sym e) 0 (suc (place_of ts t))) (omega arith)
 place_within (x ∷ ts) t (Memᴰ.tail m) = by_cases (Ty-discrete x t)
     (λ e. rw (if_pos (Ty-discrete x t) e 0 (suc (place_of ts t))) (omega arith))
     (λ n. rw (if_neg (Ty-discrete x t) n 0 (suc (place_of ts t))) (omega (arith, place_within ts t m)))
 
 pub place_holds : (ts : List Ty) (t : Ty) → Memᴰ t ts → get_or ts (place_of ts t) Ty.one ≡ t
+place_holds [] t h = elim h [ ]
 place_holds (x ∷ ts) t (Memᴰ.head e) = rw (if_pos (Ty-discrete x t) (sym e) 0 (suc (place_of ts t))) (sym e)
 place_holds (x ∷ ts) t (Memᴰ.tail m) = by_cases (Ty-discrete x t)
     (λ e. rw (if_pos (Ty-discrete x t) e 0 (suc (place_of ts t))) e)
@@ -41,6 +44,7 @@ one_place_one_type ts t u m n e = sym (place_holds ts t m) ∙ ap (λ (k : ℕ).
 
 -- a type that stands keeps its place when more are added
 pub place_stays : (ts us : List Ty) (t : Ty) → Memᴰ t ts → place_of (ts ++ us) t ≡ place_of ts t
+place_stays [] us t h = elim h [ ]
 place_stays (x ∷ ts) us t (Memᴰ.head e) =
     if_pos (Ty-discrete x t) (sym e) 0 (suc (place_of (ts ++ us) t)) ∙ sym (if_pos (Ty-discrete x t) (sym e) 0 (suc (place_of ts t)))
 place_stays (x ∷ ts) us t (Memᴰ.tail m) = ap (λ (k : ℕ). ite (Ty-discrete x t) 0 (suc k)) (place_stays ts us t m)
@@ -53,6 +57,7 @@ with_itself (x ∷ ts) t = by_cases (Ty-discrete x t)
     (λ n. rw (if_neg (Ty-discrete x t) n (x ∷ ts) (x ∷ with_type ts t)) (Memᴰ.tail (with_itself ts t)))
 
 pub with_others : (ts : List Ty) (t u : Ty) → Memᴰ u ts → Memᴰ u (with_type ts t)
+with_others [] t u h = elim h [ ]
 with_others (x ∷ ts) t u (Memᴰ.head h) = by_cases (Ty-discrete x t)
     (λ e. rw (if_pos (Ty-discrete x t) e (x ∷ ts) (x ∷ with_type ts t)) (Memᴰ.head h))
     (λ n. rw (if_neg (Ty-discrete x t) n (x ∷ ts) (x ∷ with_type ts t)) (Memᴰ.head h))

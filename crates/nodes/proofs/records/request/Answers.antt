@@ -9,8 +9,7 @@ use Rattle.nodes.specs.Coded.{asks}
 use Rattle.nodes.specs.declared.Record.{Record}
 use Rattle.nodes.specs.declared.Record.TheVariants.{TakeBack, Close, Malformed}
 use borrow.Author.Rules.{rules}
-use Rattle.nodes.proofs.records.request.Statement.{statement}
-use Rattle.nodes.proofs.records.request.Tie as tie
+use Rattle.nodes.proofs.records.request.Goals as goal
 
 unknown-kind : (kind a b : ℕ) → 17 ≤ kind → (kind ≡ 64 → ⊥) → (kind ≡ 65 → ⊥) → by_kind kind a b ≡ Malformed
 unfolding nodes
@@ -19,29 +18,15 @@ unknown-kind kind a b past not-64 not-65 =
     ∙ if_neg (ℕ_discrete kind 64) not-64 _ _
     ∙ if_neg (ℕ_discrete kind 65) not-65 _ _
 
-unless-requires : tie.Need-unless-requires
-unless-requires c κs = search rules
-
-unless-requires-2 : tie.Need-unless-requires-2
-unless-requires-2 c κs = search rules
-
-unless-requires-3 : tie.Need-unless-requires-3
-unless-requires-3 c κs = search rules
-
-returns : tie.Need-returns
+pub returns-in-64 : goal.returns-in-64
 unfolding nodes ℕ_discrete
-returns c = rw c.before.match.keys1 (c.unless.ensures (TakeBack _) refl)
+returns-in-64 c = rw c.in-64.is (c.unless.ensures (TakeBack _) refl)
 
-returns-2 : tie.Need-returns-2
+pub returns-in-65 : goal.returns-in-65
 unfolding nodes ℕ_discrete
-returns-2 c =
-    rw c.before.before.match.keys2
-    (c.unless3.ensures (spare c.before.before.before.args.b Close) (c.before.unless2.ensures Close refl))
+returns-in-65 c =
+    rw c.in-65.is
+    (c.unless-in-65-2.ensures (spare c.args.b Close) (c.unless-in-65.ensures Close refl))
 
-returns-3 : tie.Need-returns-3
-returns-3 c = let rest = c.match.rest in ap asks (sym (unknown-kind _ _ _ c.before.requires rest.0.1 rest.1))
-
-pub request-spec : {M : Type 1} → statement M
-request-spec =
-    tie.close
-    (tie.spec unless-requires unless-requires-2 unless-requires-3 returns returns-2 returns-3)
+pub returns-in_default : goal.returns-in_default
+returns-in_default c = ap asks (sym (unknown-kind _ _ _ c.requires (search rules) (search rules)))
