@@ -1,0 +1,39 @@
+-- `combinators::enter_leaf` meets its contract: each arm is its combinator's row.
+use mathlib.Core.Path.{◌≡◌, subst}
+use Rattle.nodes.specs.Layout.{arrow}
+use Rattle.nodes.specs.Coded.{named}
+use Rattle.nodes.specs.declared.Node.TheVariants.{Witness as WitnessNode}
+use Rattle.combinators.specs.Entering.{Ready, leaf}
+use Rattle.combinators.proofs.Arity.{is_witness}
+use borrow.Author.Rules.{rules}
+use Rattle.combinators.proofs.enter_leaf.Goals as goal
+use Rattle.combinators.proofs.enter_leaf.Goals.{In_default}
+
+-- the row of the last arm
+last_row : (c : In_default) → leaf (named c.args.kind c.args.n 0) c.args.e ≡ leaf WitnessNode c.args.e
+last_row c =
+    is_witness c.args.kind c.args.n 0 (arrow 0 0) (arrow 0 0) c.args.e c.in_default.is c.requires.n_len
+
+pub iden-requires : goal.iden-requires
+iden-requires c = rw c.in-Iden.is at c.requires.ready.0
+
+pub unit-requires : goal.unit-requires
+unit-requires c = rw c.in-Unit.is at c.requires.ready.0
+
+pub word-requires : goal.word-requires
+word-requires c = rw c.in-Word.is at c.requires.ready.1
+
+pub witness-requires : goal.witness-requires
+witness-requires c = subst (Ready _ _) (last_row (goal.at.witness-requires c).In_default) c.requires.ready.0
+
+pub returns-in-Iden : goal.returns-in-Iden
+returns-in-Iden c = rw c.in-Iden.is c.iden.ensures
+
+pub returns-in-Unit : goal.returns-in-Unit
+returns-in-Unit c = rw c.in-Unit.is c.unit.ensures
+
+pub returns-in-Word : goal.returns-in-Word
+returns-in-Word c = rw c.in-Word.is c.word.ensures
+
+pub returns-in_default : goal.returns-in_default
+returns-in_default c = rw (last_row (goal.at.returns-in_default c).In_default) c.witness.ensures
