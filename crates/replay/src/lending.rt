@@ -4,6 +4,7 @@
 ghost use Rattle.std.specs.Prelude.{◌≤◌, length};
 
 use super::{ANSWERS, run, stream};
+use std::io::Read;
 use types::limits::LISTING;
 
 // Where the other three numbers of a lending stand.
@@ -58,29 +59,30 @@ fn numbers_as_lent(numbers: &[u16], from: usize) -> bool {
 }
 
 // Writes whether all that follows what was written into the buffers is as it was lent.
-fn write_as_lent(answers: &[u8], answered: usize, listing: &[u16], listed: usize) {
+fn write_as_lent(rt: &impl Print, answers: &[u8], answered: usize, listing: &[u16], listed: usize) {
     if as_lent(answers, answered) && numbers_as_lent(listing, listed) {
-        stream::write(&[1]);
+        stream::write(rt, &[1]);
     } else {
-        stream::write(&[0]);
+        stream::write(rt, &[0]);
     }
 }
 
-fn write_code(code: u32) {
+fn write_code(rt: &impl Print, code: u32) {
     let bytes = [
         (code % 256) as u8,
         (code / 256 % 256) as u8,
         (code / 65536 % 256) as u8,
         (code / 16777216) as u8,
     ];
-    stream::write(&bytes);
+    stream::write(rt, &bytes);
 }
 
 // What is written of a job that could be run.
-fn done(job: &[u8], answers: &[u8], listing: &[u16]) {
-    stream::write_answers(job, answers);
-    stream::write_listing(listing);
+fn done(rt: &impl Print, job: &[u8], answers: &[u8], listing: &[u16]) {
+    stream::write_answers(rt, job, answers);
+    stream::write_listing(rt, listing);
     write_as_lent(
+        rt,
         answers,
         stream::answers_end(job),
         listing,
@@ -102,7 +104,7 @@ fn call(job: &[u8], answers: &mut [u8], bytes: usize, listing: &mut [u16], numbe
     )
 }
 
-fn lend(job: &[u8], bytes: usize, numbers: usize)
+fn lend(rt: &impl Print, job: &[u8], bytes: usize, numbers: usize)
     requires { (bytes ≤ 32769) × (numbers ≤ 26728) }
 {
     let mut answers_space = [0u8; BYTES];
@@ -110,16 +112,16 @@ fn lend(job: &[u8], bytes: usize, numbers: usize)
     let answers: &mut [u8] = &mut answers_space;
     let listing: &mut [u16] = &mut listing_space;
     let code = call(job, answers, bytes, listing, numbers);
-    write_code(code);
+    write_code(rt, code);
     if code == 0 {
-        done(job, answers, listing);
+        done(rt, job, answers, listing);
     } else {
-        write_as_lent(answers, 0, listing, 0);
+        write_as_lent(rt, answers, 0, listing, 0);
     }
 }
 
 // A lending whose four numbers have been read; the job's bytes go over them. Whether there was room, and all of it came.
-pub(super) fn put(job: &mut [u8]) -> bool {
+pub(super) fn put(rt: &impl Print, input: &mut impl Read, job: &mut [u8]) -> bool {
     let length = stream::number(job, LENGTH);
     let bytes = stream::number(job, BYTES_LENT);
     let numbers = stream::number(job, NUMBERS_LENT);
@@ -129,9 +131,9 @@ pub(super) fn put(job: &mut [u8]) -> bool {
     if NUMBERS < numbers {
         return false;
     }
-    if !stream::read(job, 0, length) {
+    if !stream::read(input, job, 0, length) {
         return false;
     }
-    lend(stream::front(job, length), bytes, numbers);
+    lend(rt, stream::front(job, length), bytes, numbers);
     true
 }

@@ -19,6 +19,7 @@ mod plain;
 mod stream;
 
 use headers::{EIGHT, HEADER};
+use std::io::Read;
 
 const MOST_RECORDS: usize = 4096;
 
@@ -38,22 +39,23 @@ fn run(job: &[u8], answers: &mut [u8], listing: &mut [u16]) -> u32 {
 }
 
 // One item: whether another may follow.
-fn item() -> bool {
+fn item(rt: &impl Print, input: &mut impl Read) -> bool {
     let mut space = [0u8; JOB];
     let job: &mut [u8] = &mut space;
-    if !stream::read(job, 0, HEADER) {
+    if !stream::read(input, job, 0, HEADER) {
         return false;
     }
     match stream::number(job, 0) {
-        LENDING => lending::put(job),
-        PLAIN => plain::put(job),
+        LENDING => lending::put(rt, input, job),
+        PLAIN => plain::put(rt, input, job),
         _ => false,
     }
 }
 
-fn main() {
+fn main(rt: HostRuntime) {
+    let mut input = rt.stdin();
     let mut left: u64 = 18446744073709551615;
-    while item() {
+    while item(&rt, &mut input) {
         if left == 0 {
             return;
         }

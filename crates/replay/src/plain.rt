@@ -4,6 +4,7 @@ ghost use Rattle.std.specs.Prelude.{◌+◌, ◌≤◌, length};
 
 use super::{ANSWERS, run, stream};
 use headers::{EIGHT, HEADER};
+use std::io::Read;
 use types::limits::LISTING;
 
 // Where the header has the job's length.
@@ -44,7 +45,7 @@ fn leave_out_joins(job: &[u8], answers: &mut [u8]) {
     }
 }
 
-fn answer(job: &[u8]) -> bool {
+fn answer(rt: &impl Print, job: &[u8]) -> bool {
     let mut answers_space = [0u8; ANSWERS];
     let mut listing_space = [0u16; LISTING];
     let answers: &mut [u8] = &mut answers_space;
@@ -53,16 +54,16 @@ fn answer(job: &[u8]) -> bool {
         return false;
     }
     leave_out_joins(job, answers);
-    stream::write_answers(job, answers);
-    stream::write_listing(listing);
+    stream::write_answers(rt, job, answers);
+    stream::write_listing(rt, listing);
     true
 }
 
 // A job whose header has been read: whether it could be run.
-pub(super) fn put(job: &mut [u8]) -> bool {
+pub(super) fn put(rt: &impl Print, input: &mut impl Read, job: &mut [u8]) -> bool {
     let end = stream::number(job, LENGTH);
-    if !stream::read(job, HEADER, end) {
+    if !stream::read(input, job, HEADER, end) {
         return false;
     }
-    answer(stream::front(job, end))
+    answer(rt, stream::front(job, end))
 }

@@ -3,21 +3,21 @@
 ghost use Rattle.std.specs.Prelude.{◌-◌, ◌*◌, ◌≤◌, length};
 
 use headers::{EIGHT, HEADER};
-use libc::{STDIN_FILENO, STDOUT_FILENO};
+use std::io::Read;
 use types::limits::LISTING;
 
 // The longest listing, in bytes.
 const LISTED: usize = 2 * LISTING;
 
 // Reads the bytes from one place up to another, and says whether all of them came.
-pub(super) fn read(bytes: &mut [u8], from: usize, end: usize) -> bool {
+pub(super) fn read(input: &mut impl Read, bytes: &mut [u8], from: usize, end: usize) -> bool {
     if end < from {
         return false;
     }
     if bytes.len() < end {
         return false;
     }
-    io::read_full(STDIN_FILENO, &mut bytes[from..end]) == end - from
+    input.read_exact(&mut bytes[from..end]).is_ok()
 }
 
 fn four(b0: u8, b1: u8, b2: u8, b3: u8) -> usize {
@@ -55,8 +55,9 @@ pub(super) fn records(job: &[u8]) -> usize
     (job.len() - HEADER) / EIGHT
 }
 
-pub(super) fn write(bytes: &[u8]) {
-    io::write_all(STDOUT_FILENO, bytes);
+// What standard output does not take is let go.
+pub(super) fn write(rt: &impl Print, bytes: &[u8]) {
+    let _ = rt.write_all(bytes);
 }
 
 // Where a job's answers end.
@@ -64,8 +65,8 @@ pub(super) fn answers_end(job: &[u8]) -> usize {
     EIGHT * records(job)
 }
 
-pub(super) fn write_answers(job: &[u8], answers: &[u8]) {
-    write(front(answers, answers_end(job)));
+pub(super) fn write_answers(rt: &impl Print, job: &[u8], answers: &[u8]) {
+    write(rt, front(answers, answers_end(job)));
 }
 
 fn number_at(numbers: &[u16], at: usize) -> u16 {
@@ -104,10 +105,10 @@ fn as_bytes(listing: &[u16], end: usize, bytes: &mut [u8])
     }
 }
 
-pub(super) fn write_listing(listing: &[u16]) {
+pub(super) fn write_listing(rt: &impl Print, listing: &[u16]) {
     let mut space = [0u8; LISTED];
     let bytes: &mut [u8] = &mut space;
     let end = listing_end(listing);
     as_bytes(listing, end, bytes);
-    write(front(bytes, 2 * end));
+    write(rt, front(bytes, 2 * end));
 }

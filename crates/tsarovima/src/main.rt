@@ -11,7 +11,10 @@ mod page;
 mod report;
 
 use file::Ended;
-use libc::{STDERR_FILENO, STDIN_FILENO};
+use std::env::{Env, FillError};
+use std::io::{ErrorKind, Read};
+use std::rt::Files;
+use std::{fs, io};
 use types::limits::LISTING;
 
 // One byte more than a file may have, so that a longer one is seen to be longer.
@@ -20,20 +23,35 @@ const BYTES: usize = 65537;
 // What the longest job, of 4,096 records, needs.
 const ANSWERS: usize = 32768;
 
-fn say(words: &[u8]) {
-    io::write_all(STDERR_FILENO, words);
+// Room for a file's name: no path is longer.
+const NAME: usize = 4096;
+
+// What standard error does not take is let go: there is nowhere left to say it.
+fn say(rt: &impl Eprint, words: &str) {
+    let _ = rt.eprint(words);
 }
 
-// A line that names what could not be read or written, and says why the last call failed.
-fn failed(what: &[u8]) {
-    say(b"tsarovima: ");
-    os::fail(what);
+// A line that names what could not be read or written, and says why.
+fn failed(rt: &impl Eprint, what: &str, why: io::Error) {
+    let _ = eprintln!(rt; "tsarovima: {what}: {why}");
 }
 
-fn too_long(name: &[u8]) {
-    say(b"tsarovima: ");
-    say(name);
-    say(b": longer than 65536 bytes, and no job is longer than 32784\n");
+// The same of a name that names no file.
+fn failed_name(rt: &impl Eprint, why: &str) {
+    failed(
+        rt,
+        "the file's name",
+        io::Error::new(ErrorKind::InvalidFilename, why),
+    );
+}
+
+fn too_long(rt: &impl Eprint, name: &str) {
+    say(rt, "tsarovima: ");
+    say(rt, name);
+    say(
+        rt,
+        ": longer than 65536 bytes, and no job is longer than 32784\n",
+    );
 }
 
 // The job's code. Nothing that the call promises is needed here, so it is kept out of the other functions' proofs.
@@ -42,51 +60,54 @@ fn put(job: &[u8], answers: &mut [u8], listing: &mut [u16]) -> u32 {
 }
 
 // Puts the first bytes of what was read, as a job, and reports.
-fn check(read: &[u8], length: usize) {
+fn check(rt: &(impl Print + Eprint), read: &[u8], length: usize) {
     let job = page::front(read, length);
     let mut answers = [0u8; ANSWERS];
     let mut listing = [0u16; LISTING];
     let code = put(job, &mut answers, &mut listing);
-    if !report::report(code, job, &answers, &listing) {
-        failed(b"standard output");
+    if let Err(why) = report::report(rt, code, job, &answers, &listing) {
+        failed(rt, "standard output", why);
     }
 }
 
-fn check_all(descriptor: i32, name: &[u8]) {
+fn check_all(rt: &(impl Print + Eprint), input: &mut impl Read, name: &str) {
     let mut space = [0u8; BYTES];
-    match file::read(descriptor, &mut space) {
-        Ended::Whole(length) => check(&space, length),
-        Ended::Longer => too_long(name),
-        Ended::Failed => failed(name),
+    match file::read(input, &mut space) {
+        Ended::Whole(length) => check(rt, &space, length),
+        Ended::Longer => too_long(rt, name),
+        Ended::Failed(why) => failed(rt, name, why),
     }
 }
 
-fn check_file(name: &[u8]) {
-    let descriptor = os::open_read(name);
-    if descriptor < 0 {
-        failed(name);
-        return;
+// The file is closed where it is dropped, at the end of its arm.
+fn check_file(rt: &(impl Files + Print + Eprint), name: &str) {
+    match fs::open(rt, name) {
+        Ok(mut file) => check_all(rt, &mut file, name),
+        Err(why) => failed(rt, name, why),
     }
-    check_all(descriptor, name);
-    libc::close(descriptor);
 }
 
-fn main() {
+// A name as the system gave it. Only text names a file in std.
+fn check_named(rt: &(impl Files + Print + Eprint), name: &[u8]) {
+    match str::from_utf8(name) {
+        Ok(name) => check_file(rt, name),
+        Err(_) => failed_name(rt, "not UTF-8"),
+    }
+}
+
+fn main(rt: HostRuntime) {
+    let mut name = [0u8; NAME];
     // The first argument is the program's own name.
-    let arguments = os::arg_count();
-    if 2 < arguments {
-        say(b"usage: tsarovima [FILE]   checks the job in FILE, or on standard input\n");
+    if !matches!(rt.arg(2, &mut name), Err(FillError::NotPresent)) {
+        say(
+            &rt,
+            "usage: tsarovima [FILE]   checks the job in FILE, or on standard input\n",
+        );
         return;
     }
-    if arguments < 2 {
-        check_all(STDIN_FILENO, b"standard input");
-        return;
+    match rt.arg(1, &mut name) {
+        Err(FillError::NotPresent) => check_all(&rt, &mut rt.stdin(), "standard input"),
+        Err(FillError::TooLong) => failed_name(&rt, "File name too long"),
+        Ok(length) => check_named(&rt, &name[..length]),
     }
-    let mut name = io::buffer();
-    let length = os::arg(1, &mut name);
-    if os::errno() != 0 {
-        failed(b"the file's name");
-        return;
-    }
-    check_file(&name[..length]);
 }

@@ -1,14 +1,12 @@
 // The report's bytes, gathered on a page, a lent array, and written when it is nearly full: one system call serves many lines. Nothing
 // is promised of what is printed; a byte for which there is no room is left out, and `end_line` keeps room for a line.
 //
-// A place on the page is where the next byte goes. After a failure of standard output it is STOPPED, past every page, and nothing more
-// is written.
+// A place on the page is where the next byte goes. After a failure of standard output there is none, and nothing more is written.
 
-use libc::STDOUT_FILENO;
+use std::io;
+use std::io::Write;
 
 pub(super) const START: usize = 0;
-
-pub(super) const STOPPED: usize = 65536;
 
 // No line of the report is longer.
 const LINE: usize = 128;
@@ -34,7 +32,10 @@ pub(super) fn text(page: &mut [u8], from: usize, words: &[u8]) -> usize {
 
 pub(super) fn number(page: &mut [u8], place: usize, n: u64) -> usize {
     let mut digits = [0u8; 20];
-    let k = io::decimal(n, &mut digits);
+    let mut room: &mut [u8] = &mut digits;
+    // What is written moves `room` on, and no number has more digits than there is room for.
+    let _ = write!(room, "{n}");
+    let k = 20usize.saturating_sub(room.len());
     text(page, place, &digits[..k])
 }
 
@@ -49,24 +50,15 @@ pub(super) fn front(bytes: &[u8], n: usize) -> &[u8] {
 }
 
 // Writes what is gathered, and begins the page again.
-pub(super) fn flush(page: &[u8], place: usize) -> usize {
-    if page.len() < place {
-        return STOPPED;
-    }
-    if io::write_all(STDOUT_FILENO, front(page, place)) {
-        START
-    } else {
-        STOPPED
-    }
+pub(super) fn flush(rt: &impl Print, page: &[u8], place: usize) -> io::Result<usize> {
+    rt.write_all(front(page, place))?;
+    Ok(START)
 }
 
-pub(super) fn end_line(page: &mut [u8], place: usize) -> usize {
+pub(super) fn end_line(rt: &impl Print, page: &mut [u8], place: usize) -> io::Result<usize> {
     let ended = byte(page, place, b'\n');
-    if page.len() < ended {
-        return ended;
+    if page.len().saturating_sub(ended) < LINE {
+        return flush(rt, page, ended);
     }
-    if page.len() - ended < LINE {
-        return flush(page, ended);
-    }
-    ended
+    Ok(ended)
 }

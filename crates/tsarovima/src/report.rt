@@ -2,8 +2,9 @@
 // types and arrows. The numbers are read out of the buffers that the job call filled, and an index past an end reads as 0.
 
 use super::page;
-use super::page::{START, STOPPED};
+use super::page::START;
 use headers::{EIGHT, HEADER};
+use std::io;
 use texts::Text;
 
 const PAGE: usize = 8192;
@@ -104,12 +105,19 @@ fn record(page: &mut [u8], from: usize, index: usize, record: &[u8], answer: &[u
 }
 
 // The line of one record, if both buffers have its bytes.
-fn record_at(page: &mut [u8], place: usize, index: usize, records: &[u8], answers: &[u8]) -> usize {
+fn record_at(
+    rt: &impl Print,
+    page: &mut [u8],
+    place: usize,
+    index: usize,
+    records: &[u8],
+    answers: &[u8],
+) -> io::Result<usize> {
     if records.len() / EIGHT <= index {
-        return place;
+        return Ok(place);
     }
     if answers.len() / EIGHT <= index {
-        return place;
+        return Ok(place);
     }
     let start = EIGHT * index;
     let end = start + EIGHT;
@@ -120,18 +128,24 @@ fn record_at(page: &mut [u8], place: usize, index: usize, records: &[u8], answer
         &records[start..end],
         &answers[start..end],
     );
-    page::end_line(page, said)
+    page::end_line(rt, page, said)
 }
 
-fn records(page: &mut [u8], from: usize, records: &[u8], answers: &[u8]) -> usize {
+fn records(
+    rt: &impl Print,
+    page: &mut [u8],
+    from: usize,
+    records: &[u8],
+    answers: &[u8],
+) -> io::Result<usize> {
     let count = records.len() / EIGHT;
     let mut place = from;
     let mut i: usize = 0;
     while i < count {
-        place = record_at(page, place, i, records, answers);
+        place = record_at(rt, page, place, i, records, answers)?;
         i += 1;
     }
-    place
+    Ok(place)
 }
 
 fn number_at(listing: &[u16], at: usize) -> u16 {
@@ -159,9 +173,16 @@ fn made_of(page: &mut [u8], place: usize, kind: u16, left: u16, right: u16) -> u
 }
 
 // The line of one type, whose triple begins at `at`.
-fn type_line(page: &mut [u8], from: usize, number: u16, listing: &[u16], at: usize) -> usize {
+fn type_line(
+    rt: &impl Print,
+    page: &mut [u8],
+    from: usize,
+    number: u16,
+    listing: &[u16],
+    at: usize,
+) -> io::Result<usize> {
     if listing.len() < at {
-        return from;
+        return Ok(from);
     }
     let triple = &listing[at..];
     let mut place = named(page, from, number);
@@ -173,20 +194,27 @@ fn type_line(page: &mut [u8], from: usize, number: u16, listing: &[u16], at: usi
         number_at(triple, 1),
         number_at(triple, 2),
     );
-    page::end_line(page, place)
+    page::end_line(rt, page, place)
 }
 
 // The line of one node, whose pair begins at `at`.
-fn arrow_line(page: &mut [u8], from: usize, number: u16, listing: &[u16], at: usize) -> usize {
+fn arrow_line(
+    rt: &impl Print,
+    page: &mut [u8],
+    from: usize,
+    number: u16,
+    listing: &[u16],
+    at: usize,
+) -> io::Result<usize> {
     if listing.len() < at {
-        return from;
+        return Ok(from);
     }
     let pair = &listing[at..];
     let mut place = page::byte(page, from, b'n');
     place = page::number(page, place, number as u64);
     place = page::text(page, place, b": ");
     place = two_types(page, place, number_at(pair, 0), b" -> ", number_at(pair, 1));
-    page::end_line(page, place)
+    page::end_line(rt, page, place)
 }
 
 // Where the three numbers of a type stand, and the two of a node.
@@ -198,61 +226,95 @@ fn pair_at(offset: u16, number: u16) -> usize {
     (offset as usize) + 2 * (number as usize)
 }
 
-fn types(page: &mut [u8], from: usize, listing: &[u16], offset: u16, count: u16) -> usize {
+fn types(
+    rt: &impl Print,
+    page: &mut [u8],
+    from: usize,
+    listing: &[u16],
+    offset: u16,
+    count: u16,
+) -> io::Result<usize> {
     let mut place = from;
     let mut i: u16 = 0;
     while i < count {
-        place = type_line(page, place, i, listing, triple_at(offset, i));
+        place = type_line(rt, page, place, i, listing, triple_at(offset, i))?;
         i += 1;
     }
-    place
+    Ok(place)
 }
 
-fn arrows(page: &mut [u8], from: usize, listing: &[u16], offset: u16, count: u16) -> usize {
+fn arrows(
+    rt: &impl Print,
+    page: &mut [u8],
+    from: usize,
+    listing: &[u16],
+    offset: u16,
+    count: u16,
+) -> io::Result<usize> {
     let mut place = from;
     let mut i: u16 = 0;
     while i < count {
-        place = arrow_line(page, place, i, listing, pair_at(offset, i));
+        place = arrow_line(rt, page, place, i, listing, pair_at(offset, i))?;
         i += 1;
     }
-    place
+    Ok(place)
 }
 
-fn counts(page: &mut [u8], from: usize, nodes: u16, types: u16) -> usize {
+fn counts(
+    rt: &impl Print,
+    page: &mut [u8],
+    from: usize,
+    nodes: u16,
+    types: u16,
+) -> io::Result<usize> {
     let mut place = page::text(page, from, b"nodes ");
     place = page::number(page, place, nodes as u64);
     place = page::text(page, place, b" types ");
     place = page::number(page, place, types as u64);
-    page::end_line(page, place)
+    page::end_line(rt, page, place)
 }
 
 // The listing opens with four numbers: nodes, types, and the offsets of types and of arrows.
-fn listed(page: &mut [u8], from: usize, listing: &[u16]) -> usize {
+fn listed(rt: &impl Print, page: &mut [u8], from: usize, listing: &[u16]) -> io::Result<usize> {
     let nodes = number_at(listing, 0);
     let all = number_at(listing, 1);
-    let mut place = counts(page, from, nodes, all);
-    place = types(page, place, listing, number_at(listing, 2), all);
-    arrows(page, place, listing, number_at(listing, 3), nodes)
+    let mut place = counts(rt, page, from, nodes, all)?;
+    place = types(rt, page, place, listing, number_at(listing, 2), all)?;
+    arrows(rt, page, place, listing, number_at(listing, 3), nodes)
 }
 
-fn all(page: &mut [u8], code: u32, job: &[u8], answers: &[u8], listing: &[u16]) -> usize {
+fn all(
+    rt: &impl Print,
+    page: &mut [u8],
+    code: u32,
+    job: &[u8],
+    answers: &[u8],
+    listing: &[u16],
+) -> io::Result<usize> {
     let mut place = page::text(page, START, b"job ");
     place = page::number(page, place, code as u64);
-    place = page::end_line(page, place);
+    place = page::end_line(rt, page, place)?;
     if code != 0 {
-        return place;
+        return Ok(place);
     }
     if job.len() < HEADER {
-        return place;
+        return Ok(place);
     }
-    place = records(page, place, &job[HEADER..], answers);
-    listed(page, place, listing)
+    place = records(rt, page, place, &job[HEADER..], answers)?;
+    listed(rt, page, place, listing)
 }
 
-// Writes the report, and says whether standard output took all of it.
-pub(super) fn report(code: u32, job: &[u8], answers: &[u8], listing: &[u16]) -> bool {
+// Writes the report, or says why standard output did not take all of it.
+pub(super) fn report(
+    rt: &impl Print,
+    code: u32,
+    job: &[u8],
+    answers: &[u8],
+    listing: &[u16],
+) -> io::Result<()> {
     let mut space = [0u8; PAGE];
     let page: &mut [u8] = &mut space;
-    let place = all(page, code, job, answers, listing);
-    page::flush(page, place) != STOPPED
+    let place = all(rt, page, code, job, answers, listing)?;
+    page::flush(rt, page, place)?;
+    Ok(())
 }
