@@ -5,14 +5,13 @@ use Rattle.nodes.specs.Coded.{named}
 use Rattle.nodes.specs.declared.Node.TheVariants.{Witness as WitnessNode}
 use Rattle.combinators.specs.Entering.{Ready, leaf}
 use Rattle.combinators.proofs.Arity.{is_witness}
-use borrow.Author.Rules.{rules}
 use Rattle.combinators.proofs.enter_leaf.Goals as goal
 use Rattle.combinators.proofs.enter_leaf.Goals.{In_default}
 
 -- the row of the last arm
 last_row : (c : In_default) → leaf (named c.args.kind c.args.n 0) c.args.e ≡ leaf WitnessNode c.args.e
 last_row c =
-    is_witness c.args.kind c.args.n 0 (arrow 0 0) (arrow 0 0) c.args.e c.in_default.is c.requires.n_len
+    is_witness c.args.kind c.args.n 0 (arrow 0 0) (arrow 0 0) c.args.e (c.in_default.not-Iden, (c.in_default.not-Unit, (c.in_default.not-Word, tt))) c.requires.n_len
 
 pub iden-requires : goal.iden-requires
 iden-requires c = rw c.in-Iden.is at c.requires.ready.0

@@ -5,14 +5,13 @@ use Rattle.nodes.specs.Coded.{named}
 use Rattle.nodes.specs.declared.Node.TheVariants.{DisconnectHole as HoleNode}
 use Rattle.combinators.specs.Entering.{Ready, unary}
 use Rattle.combinators.proofs.Arity.{is_hole}
-use borrow.Author.Rules.{rules}
 use Rattle.combinators.proofs.enter_unary.Goals as goal
 use Rattle.combinators.proofs.enter_unary.Goals.{In_default}
 
 -- the row of the last arm
 last_row : (c : In_default) → unary (λ i. named c.args.kind i 0) c.args.s c.args.e ≡ unary HoleNode c.args.s c.args.e
 last_row c =
-    is_hole c.args.kind 0 0 c.args.s (arrow 0 0) c.args.e c.in_default.is c.requires.kind_len
+    is_hole c.args.kind 0 0 c.args.s (arrow 0 0) c.args.e (c.in_default.not-InjL, (c.in_default.not-InjR, (c.in_default.not-Take, (c.in_default.not-Drop, (c.in_default.not-AssertL, (c.in_default.not-AssertR, tt)))))) c.requires.kind_len
 
 pub injl-requires : goal.injl-requires
 injl-requires c = rw c.in-InjL.is at c.requires.ready

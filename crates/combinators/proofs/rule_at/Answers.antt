@@ -7,14 +7,13 @@ use Rattle.nodes.specs.Meant.{meant}
 use Rattle.nodes.specs.declared.Node.TheVariants.{DisconnectHole as HoleNode}
 use Rattle.combinators.specs.Entering.{unary}
 use Rattle.combinators.proofs.Arity.{more_rules}
-use borrow.Author.Rules.{rules}
 use Rattle.combinators.proofs.rule_at.Goals as goal
 use Rattle.combinators.proofs.rule_at.Goals.{In_default}
 
 -- the row of the last arm
 last_row : (c : In_default) → meant c.args.row ≡ unary HoleNode c.args.row.s c.args.row.e
 last_row c =
-    more_rules c.args.row.node.kind c.args.row.node.a c.args.row.node.b c.args.row.s c.args.row.t c.args.row.e c.args.i c.in_default.is c.requires.1 c.requires.2
+    more_rules c.args.row.node.kind c.args.row.node.a c.args.row.node.b c.args.row.s c.args.row.t c.args.row.e c.args.i (c.in_default.not-Case, (c.in_default.not-AssertL, (c.in_default.not-AssertR, (c.in_default.not-Disconnect, tt)))) c.requires.1 c.requires.2
 
 pub case_rule-requires : goal.case_rule-requires
 case_rule-requires c = (c.requires.0.0, rw c.in-Case.is at c.requires.2)

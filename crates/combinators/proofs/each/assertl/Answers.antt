@@ -1,6 +1,5 @@
 -- `combinators::each::assertl` meets its contract: the entries of its half, and all rules are left.
 use mathlib.Core.Path.{refl}
-use borrow.Author.Rules.{rules}
 use Rattle.combinators.proofs.each.assertl.Goals as goal
 
 pub returns : goal.returns

@@ -1,6 +1,5 @@
 -- `combinators::each::assertl_rule` meets its contract: of two places the other is 1.
 use Rattle.nodes.proofs.Arms.{second}
-use borrow.Author.Rules.{rules}
 use Rattle.combinators.proofs.each.assertl_rule.Goals as goal
 
 pub returns-then-i-eq0 : goal.returns-then-i-eq0

@@ -7,7 +7,6 @@ use Rattle.classes.specs.declared.Bound.TheVariants.{Product}
 use Rattle.nodes.specs.Layout.{case_entries}
 use Rattle.combinators.specs.Entering.{Part, part}
 use Rattle.combinators.proofs.Added.{front, rest, both}
-use borrow.Author.Rules.{rules}
 use Rattle.combinators.proofs.each.case.Goals as goal
 use Rattle.combinators.proofs.each.case.Goals.{Start}
 

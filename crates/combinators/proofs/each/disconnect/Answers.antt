@@ -7,7 +7,6 @@ use Rattle.classes.specs.declared.Bound.TheVariants.{Free, Product}
 use Rattle.nodes.specs.Layout.{power}
 use Rattle.combinators.specs.Entering.{Part, part}
 use Rattle.combinators.proofs.Added.{front, rest, both}
-use borrow.Author.Rules.{rules}
 use Rattle.combinators.proofs.each.disconnect.Goals as goal
 use Rattle.combinators.proofs.each.disconnect.Goals.{Start}
 

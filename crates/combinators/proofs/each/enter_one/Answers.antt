@@ -1,7 +1,6 @@
 -- `combinators::each::enter_one` meets its contract: the entries, and no rule.
 use mathlib.Core.Path.{refl}
 use Rattle.combinators.specs.Entered.Meets.{done}
-use borrow.Author.Rules.{rules}
 use Rattle.combinators.proofs.each.enter_one.Goals as goal
 
 pub returns : goal.returns

@@ -1,7 +1,6 @@
 -- `combinators::each::pair` meets its contract: its entry, and the rule holds already or is left.
 use mathlib.Core.Path.{refl}
 use Rattle.combinators.proofs.Added.{rule_rooted, one_left}
-use borrow.Author.Rules.{rules}
 use Rattle.combinators.proofs.each.pair.Goals as goal
 
 pub unmet-rules-requires : goal.unmet-rules-requires

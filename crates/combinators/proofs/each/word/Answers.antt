@@ -2,7 +2,6 @@
 use mathlib.Core.Path.{refl}
 use Rattle.combinators.specs.Entered.{entered}
 use Rattle.combinators.specs.Entered.Meets.{done}
-use borrow.Author.Rules.{rules}
 use Rattle.combinators.proofs.each.word.Goals as goal
 
 pub returns : goal.returns

@@ -5,7 +5,6 @@ use Rattle.classes.specs.declared.Bound.{Bound}
 use Rattle.classes.specs.declared.Bound.TheVariants.{Free, Sum, Product}
 use Rattle.combinators.specs.Entering.{Part, part, Room}
 use Rattle.combinators.proofs.Added.{front, rest, both}
-use borrow.Author.Rules.{rules}
 use Rattle.combinators.proofs.entries.add_case.Goals as goal
 use Rattle.combinators.proofs.entries.add_case.Goals.{After-add_two-four, After-add_two-six, After-add_two-two, Start}
 

@@ -4,7 +4,6 @@ use Prim.Native.Nat.{ℕ}
 use native.Mathlib.Omega.{arith}
 use Rattle.combinators.specs.Entering.{Part, part}
 use Rattle.combinators.proofs.EachEntry.{one_small, one_answer, one_grown}
-use borrow.Author.Rules.{rules}
 use Rattle.combinators.proofs.entries.add_one.Goals as goal
 use Rattle.combinators.proofs.entries.add_one.Goals.{After-add, Start}
 

@@ -3,7 +3,6 @@ use mathlib.Core.List.{List, [], ◌∷◌}
 use Rattle.classes.specs.declared.Bound.{Bound}
 use Rattle.combinators.specs.Entering.{Part, part}
 use Rattle.combinators.proofs.Added.{front, rest, both}
-use borrow.Author.Rules.{rules}
 use Rattle.combinators.proofs.entries.add_three.Goals as goal
 use Rattle.combinators.proofs.entries.add_three.Goals.{After-add_two-then, Start}
 
