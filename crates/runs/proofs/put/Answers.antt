@@ -1,0 +1,55 @@
+-- `runs::put` meets its contract: what the core promises, by what the record asks.
+use mathlib.Core.Path.{sym, ap, ◌∙◌, subst}
+use native.Mathlib.Omega.{arith}
+use Rattle.types.specs.Limits.{most_nodes}
+use Rattle.nodes.specs.declared.Record.TheVariants.{TakeBack}
+use Rattle.nodes.proofs.Asked.{Asked, asked, asked_proper, asked_take_back, asked_close, asked_malformed}
+use Rattle.runs.proofs.Putting.{offer_is_no_closing, take_back_is_no_closing, offer_is_not_65, take_back_is_not_65, put_settled, put_closing, put_malformed, closing_room}
+use borrow.Author.Rules.{rules}
+use Rattle.runs.proofs.put.Goals as goal
+
+pub node_at-requires : goal.node_at-requires
+node_at-requires c =
+    (c.requires.from_in_bounds.0, sym c.asked.ensures ∙ c.in-Offer.is)
+
+pub offer-requires : goal.offer-requires
+offer-requires c =
+    record { by_index = (most_nodes, c.requires.opened); regular = (c.Node-at.ensures.1, asked_proper (asked c.args.bytes.now c.args.from) _ c.Node-at.ensures.0, c.requires.from_in_bounds.1.pairs) }
+
+pub close-answer-requires : goal.close-answer-requires
+close-answer-requires c =
+    record { by_index = (most_nodes, _, _, c.requires.opened); entries_bound = closing_room c.requires.opened c.requires.from_in_bounds.1 }
+
+pub bounds-bytes-from : goal.bounds-bytes-from
+bounds-bytes-from c = omega (arith, c.requires.from_in_bounds.0)
+
+pub settle-requires : goal.settle-requires
+settle-requires c =
+    omega (arith, c.requires.from_in_bounds.1.numbers, c.close-answer.auto.listed)
+
+pub bounds-bytes-from-in-Malformed : goal.bounds-bytes-from-in-Malformed
+bounds-bytes-from-in-Malformed c = omega (arith, c.requires.from_in_bounds.0)
+
+pub settle-requires-in-Malformed : goal.settle-requires-in-Malformed
+settle-requires-in-Malformed c = omega (arith, c.requires.from_in_bounds.1.numbers)
+
+pub returns-in-Offer : goal.returns-in-Offer
+returns-in-Offer c =
+    let other = offer_is_not_65 (subst (Asked _ _ _) c.Node-at.ensures.0 (asked c.args.bytes.now c.args.from)) in
+    λ o. put_settled o other c.Node-at.ensures.0 (offer_is_no_closing _) (c.offer.ensures most_nodes o)
+
+pub returns-in-TakeBack : goal.returns-in-TakeBack
+returns-in-TakeBack c =
+    let is = asked_take_back (asked c.args.bytes.now c.args.from) (sym c.asked.ensures ∙ c.in-TakeBack.is) in
+    let other = take_back_is_not_65 (subst (Asked _ _ _) is (asked c.args.bytes.now c.args.from)) in
+    λ o. put_settled o other (is ∙ ap TakeBack (sym c.first.ensures)) (take_back_is_no_closing _) (c.take_back.ensures most_nodes o)
+
+pub returns-in-Close : goal.returns-in-Close
+returns-in-Close c =
+    let is = asked_close (asked c.args.bytes.now c.args.from) (sym c.asked.ensures ∙ c.in-Close.is) in
+    λ o. (_, put_closing o is (c.close-answer.ensures most_nodes _ _ o), c.settle.ensures)
+
+pub returns-in-Malformed : goal.returns-in-Malformed
+returns-in-Malformed c =
+    let is = asked_malformed (asked c.args.bytes.now c.args.from) (sym c.asked.ensures ∙ c.in-Malformed.is) in
+    λ o. (_, put_malformed o is, c.settle-in-Malformed.ensures)

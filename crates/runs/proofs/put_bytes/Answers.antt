@@ -1,0 +1,16 @@
+-- `runs::put_bytes` meets its contract: what its calls promise, one after the other.
+use Rattle.runs.proofs.Leaving.{recorded}
+use borrow.Author.Rules.{rules}
+use Rattle.runs.proofs.put_bytes.Goals as goal
+
+pub put-step-requires : goal.put-step-requires
+put-step-requires c = record { opened = c.requires.opened; from_in_bounds = (c.requires.from_in_bounds.0, c.requires.room) }
+
+pub write-requires : goal.write-requires
+write-requires c = c.requires.from_in_bounds.1
+
+pub returns : goal.returns
+returns c =
+    λ o.
+    let told = c.put-step.ensures o in
+    recorded o c.args.bytes.now c.args.from told.1 told.2 c.write.ensures
