@@ -1,4 +1,4 @@
-//! Links the archive that `rt staticlib tsarovima_c` writes. `TSAROVIMA_LIB` names its folder; without it the project's own is taken.
+//! Links the archive that `./archive` writes at the top of the project. `TSAROVIMA_LIB` names its folder; without it the project's own is taken.
 
 use std::path::{Path, PathBuf};
 use std::process::exit;
@@ -16,7 +16,7 @@ fn main() {
     println!("cargo:rerun-if-changed={}", archive.display());
     let bytes = fs::read(&archive).unwrap_or_else(|_| {
         stop(&format!(
-            "no file {}: write it with `rt staticlib tsarovima_c`, or name the folder that has it in TSAROVIMA_LIB",
+            "no file {}: write it with `./archive` at the top of the project, or name the folder that has it in TSAROVIMA_LIB",
             archive.display()
         ))
     });

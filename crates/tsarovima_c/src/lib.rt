@@ -1,5 +1,5 @@
-// For hosts in C and Rust: the job call, the record calls over tables that the host lends, and the rules' texts. `rt staticlib
-// tsarovima_c` writes the archive, tsarovima.h declares it. A slice is a pointer and a length to the host.
+// For hosts in C and Rust: the job call, the record calls over tables that the host lends, and the rules' texts. tsarovima_c_c hands
+// them out under C's names, tsarovima.h declares them. A slice is a pointer and a length to the host.
 //
 // The record calls have one premise: the tables came from tsarovima_open and these calls, and nobody else wrote to them. Every
 // length is looked at first: a wrong one is answered with 1, whatever the tables hold, and leaves all that was lent as it was.
@@ -25,8 +25,7 @@ const WRONG_LENGTH: u32 = 1;
 const LIVE: usize = 3;
 
 // Runs a job: 0, or a refusal 16 to 22 with both buffers as they were.
-#[unsafe(no_mangle)]
-pub extern "C" fn tsarovima_job(job: &[u8], answers: &mut [u8], listing: &mut [u16]) -> u32
+pub fn tsarovima_job(job: &[u8], answers: &mut [u8], listing: &mut [u16]) -> u32
     ensures { RunBy job.now answers.old listing.old result answers.new listing.new }
 {
     headers::code(jobs::job(job, answers, listing))
@@ -94,8 +93,7 @@ fn wrong_room(work: usize, listing: usize, bytes: usize, answer: usize) -> bool
 }
 
 // Makes what the host lends a fresh state.
-#[unsafe(no_mangle)]
-pub extern "C" fn tsarovima_open(
+pub fn tsarovima_open(
     parent: &mut [u16],
     rank: &mut [u16],
     rows: &mut [u16],
@@ -133,8 +131,7 @@ pub extern "C" fn tsarovima_open(
 }
 
 // Puts the record in the first eight of `bytes` to the state, and writes its answer. A record of kind 65 writes its listing.
-#[unsafe(no_mangle)]
-pub extern "C" fn tsarovima_record(
+pub fn tsarovima_record(
     parent: &mut [u16],
     rank: &mut [u16],
     rows: &mut [u16],
@@ -200,8 +197,7 @@ pub extern "C" fn tsarovima_record(
 }
 
 // Closes: the record of kind 65.
-#[unsafe(no_mangle)]
-pub extern "C" fn tsarovima_close(
+pub fn tsarovima_close(
     parent: &mut [u16],
     rank: &mut [u16],
     rows: &mut [u16],
@@ -233,8 +229,7 @@ pub extern "C" fn tsarovima_close(
 
 // Writes the text of a rule, 1 to 7, to the front of the lent buffer if it has room for it, and returns how many bytes the text has:
 // 0 where there is no such rule.
-#[unsafe(no_mangle)]
-pub extern "C" fn tsarovima_rule_text(rule: u16, lent: &mut [u8]) -> usize
+pub fn tsarovima_rule_text(rule: u16, lent: &mut [u8]) -> usize
     ensures { TextBy rule lent.old result lent.new }
 {
     match texts::write(rule, lent) {

@@ -17,7 +17,7 @@
 //! treat every atomic instruction as shared, and the Rust has many.
 
 // C's `main` and not Rust's: before it, Rust's looks at the stack's place in
-// /proc/self/maps, and there the emulator of the Rattle kit (8.2.2) fails.
+// /proc/self/maps, and there the emulator qemu 8.2.2 fails.
 #![no_main]
 
 use std::env::args;
