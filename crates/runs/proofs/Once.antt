@@ -35,13 +35,13 @@ recorded_once {bytes = bytes} {listed = listed} {answers = answers} {from = from
     )
 
 -- no record of them was answered with a cycle
-abbrev pub NoCycle : {bytes listed answers listed' answers' : List ℕ} {from n : ℕ} {s s' : State} {o : Opened most_nodes s} {o' : Opened most_nodes s'} →
+abbrev pub NoCycle : {bytes : List ℕ} {from : ℕ} {s : State} {o : Opened most_nodes s} {listed answers : List ℕ} {n : ℕ} {s' : State} {o' : Opened most_nodes s'} {listed' answers' : List ℕ} →
     Puts bytes from s o listed answers n s' o' listed' answers' → Type 0
 NoCycle Puts.none = Unit
 NoCycle (Puts.more p x) = NoCycle p × ((i : ℕ) → x.answer ≡ Endless i → ⊥)
 
 -- several, put one after the other
-pub puts_once : {bytes listed answers listed₁ listed₂ answers₁ answers₂ : List ℕ} {from n : ℕ} {s s₁ s₂ : State} {o : Opened most_nodes s} {o₁ : Opened most_nodes s₁} {o₂ : Opened most_nodes s₂}
+pub puts_once : {bytes : List ℕ} {from : ℕ} {s : State} {o : Opened most_nodes s} {listed answers : List ℕ} {n : ℕ} {s₁ s₂ : State} {o₁ : Opened most_nodes s₁} {o₂ : Opened most_nodes s₂} {listed₁ listed₂ answers₁ answers₂ : List ℕ}
     (p : Puts bytes from s o listed answers n s₁ o₁ listed₁ answers₁) (q : Puts bytes from s o listed answers n s₂ o₂ listed₂ answers₂) →
     (o₁.nodes ≡ o₂.nodes) × (s₁ ≡ s₂) × (answers₁ ≡ answers₂) × (NoCycle p → listed₁ ≡ listed₂)
 puts_once Puts.none Puts.none = (refl, refl, refl, λ h. refl)

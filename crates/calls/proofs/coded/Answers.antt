@@ -5,7 +5,6 @@ use Rattle.nodes.specs.Coded.{named, node_of, first_field, second_field, Regular
 use Rattle.nodes.specs.declared.Node.{Node}
 use Rattle.nodes.specs.declared.Kind.{Kind}
 use Rattle.nodes.specs.declared.Coded.{Coded}
-use borrow.Author.Rules.{rules}
 use Rattle.calls.proofs.coded.Goals as goal
 
 same-node : {c : Coded} {k : Kind} {a b : ℕ} {n : Node} → (c.kind ≡ k) × (c.a ≡ a) × (c.b ≡ b) → named k a b ≡ n → first_field n ≡ a → second_field n ≡ b →

@@ -3,7 +3,6 @@ use Rattle.types.specs.Limits.{most_entries, most_nodes}
 use Rattle.types.proofs.Begun.{opened_first}
 use mathlib.Core.Path.{refl}
 use native.Mathlib.Omega.{arith}
-use borrow.Author.Rules.{rules}
 use Rattle.calls.proofs.open.Goals as goal
 
 pub open-live-requires : goal.open-live-requires

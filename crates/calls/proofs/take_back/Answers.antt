@@ -1,5 +1,4 @@
 -- `calls::take_back` meets its contract, which is the core's on the state's own arrays.
-use borrow.Author.Rules.{rules}
 use Rattle.types.specs.Limits.{most_nodes}
 use Rattle.calls.proofs.take_back.Goals as goal
 

@@ -5,7 +5,6 @@ use Rattle.types.specs.Limits.{most_nodes}
 use Rattle.nodes.specs.declared.Record.TheVariants.{TakeBack}
 use Rattle.nodes.proofs.Asked.{Asked, asked, asked_proper, asked_take_back, asked_close, asked_malformed}
 use Rattle.runs.proofs.Putting.{offer_is_no_closing, take_back_is_no_closing, offer_is_not_65, take_back_is_not_65, put_settled, put_closing, put_malformed, closing_room}
-use borrow.Author.Rules.{rules}
 use Rattle.runs.proofs.put.Goals as goal
 
 pub node_at-requires : goal.node_at-requires
@@ -14,7 +13,7 @@ node_at-requires c =
 
 pub offer-requires : goal.offer-requires
 offer-requires c =
-    record { by_index = (most_nodes, c.requires.opened); regular = (c.Node-at.ensures.1, asked_proper (asked c.args.bytes.now c.args.from) _ c.Node-at.ensures.0, c.requires.from_in_bounds.1.pairs) }
+    record { by_index = (most_nodes, c.requires.opened); regular = (c.node_at.ensures.1, asked_proper (asked c.args.bytes.now c.args.from) _ c.node_at.ensures.0, c.requires.from_in_bounds.1.pairs) }
 
 pub close-answer-requires : goal.close-answer-requires
 close-answer-requires c =
@@ -35,8 +34,8 @@ settle-requires-in-Malformed c = omega (arith, c.requires.from_in_bounds.1.numbe
 
 pub returns-in-Offer : goal.returns-in-Offer
 returns-in-Offer c =
-    let other = offer_is_not_65 (subst (Asked _ _ _) c.Node-at.ensures.0 (asked c.args.bytes.now c.args.from)) in
-    λ o. put_settled o other c.Node-at.ensures.0 (offer_is_no_closing _) (c.offer.ensures most_nodes o)
+    let other = offer_is_not_65 (subst (Asked _ _ _) c.node_at.ensures.0 (asked c.args.bytes.now c.args.from)) in
+    λ o. put_settled o other c.node_at.ensures.0 (offer_is_no_closing _) (c.offer.ensures most_nodes o)
 
 pub returns-in-TakeBack : goal.returns-in-TakeBack
 returns-in-TakeBack c =

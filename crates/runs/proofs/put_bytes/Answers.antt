@@ -1,6 +1,5 @@
 -- `runs::put_bytes` meets its contract: what its calls promise, one after the other.
 use Rattle.runs.proofs.Leaving.{recorded}
-use borrow.Author.Rules.{rules}
 use Rattle.runs.proofs.put_bytes.Goals as goal
 
 pub put-step-requires : goal.put-step-requires

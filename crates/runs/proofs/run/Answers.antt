@@ -1,14 +1,12 @@
 -- `runs::run` meets its contract. The invariant: the records so far are put, and the slices are as long as they were. The measure is how many are left.
 use mathlib.Core.Path.{◌≡◌, refl, ◌∙◌, subst}
 use mathlib.Core.List.{List}
-use Prim.Native.Nat.{ℕ, ◌+◌, ◌*◌, ◌-◌, ◌≤◌, zero-le}
+use Prim.Native.Nat.{ℕ, ◌+◌, ◌*◌, zero-le}
 use native.Mathlib.Nat.{le_antisymm}
 use native.Mathlib.Numerals.{add-one}
 use native.Mathlib.Omega.{arith}
-use lib.ListN.{length}
-use Rattle.classes.specs.Columns.{laid}
 use Rattle.types.specs.Limits.{most_nodes}
-use Rattle.types.specs.States.{State, state, Opened}
+use Rattle.types.specs.States.{State, Opened}
 use Rattle.runs.specs.Putting.{Recorded, Puts}
 use Rattle.runs.proofs.run.Goals as goal
 
@@ -26,23 +24,27 @@ loop-i-init c = (λ o. (o, Puts.none), (refl, refl, refl, refl, refl, refl, refl
 
 pub overflow_mul-i : goal.overflow_mul-i
 overflow_mul-i c =
-    omega (arith, c.loop-i-test.true, c.requires.count_in_bounds.0, c.well-formed.1.1.1.1.1.1.1.0.1)
+    omega (arith, c.loop-i-test.true, c.requires.count_in_bounds.0, c.well_formed.1.1.1.1.1.1.1.0.1)
 
 pub overflow_add-from : goal.overflow_add-from
 overflow_add-from c =
-    omega (arith, c.loop-i-test.true, c.requires.count_in_bounds.0, c.well-formed.1.1.1.1.1.1.1.0.1)
+    omega (arith, c.loop-i-test.true, c.requires.count_in_bounds.0, c.well_formed.1.1.1.1.1.1.1.0.1)
 
 pub overflow_mul-i-in-loop-i : goal.overflow_mul-i-in-loop-i
 overflow_mul-i-in-loop-i c =
-    omega (arith, c.loop-i-test.true, c.requires.count_in_bounds.0, c.well-formed.1.1.1.1.1.1.1.0.1)
+    omega (arith, c.loop-i-test.true, c.requires.count_in_bounds.0, c.well_formed.1.1.1.1.1.1.1.0.1)
 
 pub put_bytes-live-requires : goal.put_bytes-live-requires
 put_bytes-live-requires c =
-    record { opened = (c.loop-i.invariant.0 c.requires.opened).0; room = record {
-          pairs = omega (arith, c.requires.room.pairs, c.loop-i.invariant.1.0, c.loop-i.invariant.1.4);
-          marks = omega (arith, c.requires.room.marks, c.loop-i.invariant.1.4);
-          numbers = omega (arith, c.requires.room.numbers, c.loop-i.invariant.1.6);
-        }; from_in_bounds = (omega (arith, c.loop-i-test.true, c.requires.count_in_bounds.0), omega (arith, c.loop-i-test.true, c.requires.count_in_bounds.1, c.loop-i.invariant.1.7)) }
+    record {
+      opened = (c.loop-i.invariant.0 c.requires.opened).0;
+      room = record {
+        pairs = omega (arith, c.requires.room.pairs, c.loop-i.invariant.1.0, c.loop-i.invariant.1.4);
+        marks = omega (arith, c.requires.room.marks, c.loop-i.invariant.1.4);
+        numbers = omega (arith, c.requires.room.numbers, c.loop-i.invariant.1.6);
+      };
+      from_in_bounds = (omega (arith, c.loop-i-test.true, c.requires.count_in_bounds.0), omega (arith, c.loop-i-test.true, c.requires.count_in_bounds.1, c.loop-i.invariant.1.7));
+    }
 
 pub overflow_add-i : goal.overflow_add-i
 overflow_add-i c = omega (arith, c.loop-i-test.true, c.ranges.count)
@@ -51,24 +53,23 @@ pub loop-i-smaller : goal.loop-i-smaller
 loop-i-smaller c = omega (arith, c.loop-i-test.true)
 
 pub loop-i-preserved : goal.loop-i-preserved
-loop-i-preserved c =
-    (
-      λ o.
-          let (o₁, puts) = c.loop-i.invariant.0 o in
-          let x = c.put_bytes-live.ensures o₁ in
-          (x.called.after, one_more puts x),
-      (
-        c.put_bytes-live.auto.parent ∙ c.loop-i.invariant.1.0,
-        c.put_bytes-live.auto.rank ∙ c.loop-i.invariant.1.1,
-        c.put_bytes-live.auto.rows ∙ c.loop-i.invariant.1.2,
-        c.put_bytes-live.auto.trail ∙ c.loop-i.invariant.1.3,
-        c.put_bytes-live.auto.work ∙ c.loop-i.invariant.1.4,
-        c.put_bytes-live.auto.nodes ∙ c.loop-i.invariant.1.5,
-        c.put_bytes-live.auto.listed ∙ c.loop-i.invariant.1.6,
-        c.put_bytes-live.auto.1.1.1.1.1.1.1.1.1.0 ∙ c.loop-i.invariant.1.7,
-      ),
-      omega (arith, c.loop-i-test.true),
-    )
+loop-i-preserved c = (
+  λ o.
+      let (o₁, puts) = c.loop-i.invariant.0 o in
+      let x = c.put_bytes-live.ensures o₁ in
+      (x.called.after, one_more puts x),
+  (
+    c.put_bytes-live.auto.parent ∙ c.loop-i.invariant.1.0,
+    c.put_bytes-live.auto.rank ∙ c.loop-i.invariant.1.1,
+    c.put_bytes-live.auto.rows ∙ c.loop-i.invariant.1.2,
+    c.put_bytes-live.auto.trail ∙ c.loop-i.invariant.1.3,
+    c.put_bytes-live.auto.work ∙ c.loop-i.invariant.1.4,
+    c.put_bytes-live.auto.nodes ∙ c.loop-i.invariant.1.5,
+    c.put_bytes-live.auto.listed ∙ c.loop-i.invariant.1.6,
+    c.put_bytes-live.auto.answers ∙ c.loop-i.invariant.1.7,
+  ),
+  omega (arith, c.loop-i-test.true),
+)
 
 pub shape_of-parent : goal.shape_of-parent
 shape_of-parent c = c.loop-i.invariant.1.0

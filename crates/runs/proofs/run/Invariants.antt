@@ -1,15 +1,11 @@
 -- `runs::run` meets its contract. The invariant: the records so far are put, and the slices are as long as they were. The measure is how many are left.
-use mathlib.Core.Path.{◌≡◌, refl, ◌∙◌, subst}
-use mathlib.Core.List.{List}
-use Prim.Native.Nat.{ℕ, ◌+◌, ◌*◌, ◌-◌, ◌≤◌, zero-le}
-use native.Mathlib.Nat.{le_antisymm}
-use native.Mathlib.Numerals.{add-one}
-use native.Mathlib.Omega.{arith}
+use mathlib.Core.Path.{◌≡◌}
+use Prim.Native.Nat.{◌-◌, ◌≤◌}
 use lib.ListN.{length}
 use Rattle.classes.specs.Columns.{laid}
 use Rattle.types.specs.Limits.{most_nodes}
-use Rattle.types.specs.States.{State, state, Opened}
-use Rattle.runs.specs.Putting.{Recorded, Puts}
+use Rattle.types.specs.States.{state, Opened}
+use Rattle.runs.specs.Putting.{Puts}
 use Rattle.runs.proofs.run.Given as goal
 
 abbrev pub invariant-loop-i : goal.invariant-loop-i
