@@ -61,6 +61,7 @@ holds c = go (model rows fuel c.records) refl
         }
 
 all_hold : (cases : List Case) → map computed cases ≡ map stated cases → AllHold cases
+all_hold [] e c h = elim h [ ]
 all_hold (x ∷ cases) e c (Memᴰ.head is) = subst Holds (sym is) (holds x (head-eq_of_cons-eq e))
 all_hold (x ∷ cases) e c (Memᴰ.tail m) = all_hold cases (tail-eq_of_cons-eq e) c m
 

@@ -8,7 +8,7 @@ use native.Mathlib.Omega.{arith}
 use lib.ListN.{length, drop, replicate}
 use lib.Seq.{drop-nil}
 use Rattle.classes.specs.Forced.{Rule}
-use Rattle.classes.specs.Table.{Table, limit, bounds}
+use Rattle.classes.specs.Table.{Table, bounds}
 use Rattle.classes.specs.Made.{Stands}
 use Rattle.typing.specs.Types.{Ty}
 use Rattle.typing.specs.Finite.{Finite}
