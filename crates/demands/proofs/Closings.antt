@@ -27,13 +27,17 @@ cycle_iff_not_satisfiable h = (
   λ none. not_satisfied_so_endless h (λ v s. none (v, s)),
 )
 
-pub shows_most_general : {most : ℕ} {s : State} {l : List ℕ} (o : Opened most s) → Satisfiable o.nodes →
+general_shown : {most : ℕ} {s : State} (o : Opened most s) {l : List ℕ} → Satisfiable o.nodes →
     Lists o.nodes Close l → ShowsMostGeneral o.nodes l
-shows_most_general o types (Lists.closed {v = v} c) =
+general_shown o types (Lists.closed {v = v} c) =
     let (most_general, general, plain) = printed_types_are_most_general o c in
     record {
       types = most_general;
       general = general;
       shown = ap (λ (w : ℕ → Ty). listing (typed w (built o.nodes).arrows)) (fun_ext plain);
     }
-shows_most_general o types (Lists.endless i h e) = absurd (satisfied_so_not_endless o.nodes i types.1 e)
+general_shown o types (Lists.endless i h e) = absurd (satisfied_so_not_endless o.nodes i types.1 e)
+
+pub shows_most_general : {most : ℕ} {s : State} {l : List ℕ} (o : Opened most s) → Satisfiable o.nodes →
+    Lists o.nodes Close l → ShowsMostGeneral o.nodes l
+shows_most_general o types lists = general_shown o types lists
