@@ -20,7 +20,7 @@ use types::state::Live;
 use types::{Answer, state};
 
 // The state: the tables as arrays, and how much of them is in use.
-#[derive(Drop)]
+#[derive(Clone, Copy)]
 pub struct Owned {
     pub parent: [u16; ENTRIES],
     pub rank: [u16; ENTRIES],
@@ -31,14 +31,14 @@ pub struct Owned {
 }
 
 // An answer and the state after it.
-#[derive(Drop)]
+#[derive(Clone, Copy)]
 pub struct After {
     pub answer: Answer,
     pub state: Owned,
 }
 
 // A closing's answer, its listing with 0 past the end, and the state, which is the one that was given.
-#[derive(Drop)]
+#[derive(Clone, Copy)]
 pub struct Listed {
     pub answer: Answer,
     pub listing: [u16; LISTING],
