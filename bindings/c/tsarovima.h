@@ -1,6 +1,6 @@
 /* Tsarovima for C: the job call, the record calls for a host that keeps one table for many clients, and the texts of the rules.
  *
- * The functions are in libtsarovima_c.a, which `./archive` proves and writes (x86-64):
+ * The functions are in libtsarovima_c.a, which `./archive` proves and writes (x86-64-v2):
  *
  *     cc -I bindings/c host.c target/staticlib/libtsarovima_c.a -o host
  *
