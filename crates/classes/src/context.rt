@@ -1,7 +1,7 @@
 // Bounds and joining, after the Rust's context.rs. There `unify` calls `bind`, which calls `unify`; here a table of pairs
 // still to join takes the place of the calls, so no depth of types needs stack.
 
-ghost use Rattle.std.specs.Prelude.{◌≡◌, ℕ, min, ◌+◌, ◌*◌, ◌≤◌, ◌<◌, List, length, get_or};
+ghost use Rattle.std.specs.Prelude.{◌≡◌, ℕ, ◌+◌, ◌*◌, ◌≤◌, ◌<◌, List, length, get_or};
 ghost use Rattle.classes.specs.Table.{Table, kind_of, left_of, right_of};
 ghost use Rattle.classes.specs.Columns.{shapes, height, laid, lent, given_row};
 ghost use Rattle.classes.specs.Merging.{meeting};
@@ -9,27 +9,18 @@ ghost use Rattle.classes.specs.Made.{Made};
 ghost use Rattle.classes.specs.Promises.{AddedBy, entries_then, Joining, made_links};
 ghost use Rattle.classes.specs.Turning.{Shows, waiting_in, pushed, PartsPushed, Turnable, Turned, links_then, waiting_then};
 
-use super::row::{KIND, LEFT, PAIR, RIGHT, ROW, SHAPE, cell};
+use super::row::{FREE, KIND, LEFT, PAIR, PRODUCT, RIGHT, ROW, SHAPE, SUM, UNIT, cell};
 use super::union_bound::Ranked;
 use super::{Bound, Mark, union_bound};
 
-// What adding an entry answers: its number, or that no row is left.
-#[derive(Clone, Copy)]
-pub enum Added {
-    Entry(u16),
-    Full,
-}
-
-// What joining two entries answers, with the links that it made: all that follows is joined and the links are the fall in
-// the number of classes, or two different kinds are forced to be equal and the table is for undoing.
-#[derive(Clone, Copy)]
-pub enum Joined {
-    Done(u16),
-    Clash(u16),
+// Two different kinds are forced to be equal. So many links were made until then, and the table is for undoing.
+#[derive(Clone, Copy, Debug, PartialEq, Eq)]
+pub struct Clashed {
+    pub links: u16,
 }
 
 // What two bounds in one class come to: two kinds that differ, nothing further, or two pairs of parts to join.
-#[derive(Clone, Copy)]
+#[derive(Clone, Copy, Debug, PartialEq, Eq)]
 enum Meeting {
     Apart,
     Agree,
@@ -37,49 +28,37 @@ enum Meeting {
 }
 
 // A bound as the numbers of a row.
-#[derive(Clone, Copy)]
+#[derive(Clone, Copy, Debug, PartialEq, Eq)]
 struct Given {
     kind: u16,
     left: u16,
     right: u16,
 }
 
-// What one turn of a join leaves: the pairs waiting and the links made, or a clash.
-#[derive(Clone, Copy)]
-enum Turn {
-    Clash,
-    Goes(usize, u16),
-}
+impl From<Bound> for Given {
+    ghost from_gives = { λ b given. (given.kind ≡ kind_of b) × (given.left ≡ left_of b) × (given.right ≡ right_of b) };
 
-fn numbers(b: Bound) -> Given
-    ensures { (result.kind ≡ kind_of b) × (result.left ≡ left_of b) × (result.right ≡ right_of b) }
-{
-    match b {
-        Bound::Free => Given {
-            kind: 0,
-            left: 0,
-            right: 0,
-        },
-        Bound::Unit => Given {
-            kind: 1,
-            left: 0,
-            right: 0,
-        },
-        Bound::Sum(left, right) => Given {
-            kind: 2,
-            left,
-            right,
-        },
-        Bound::Product(left, right) => Given {
-            kind: 3,
-            left,
-            right,
-        },
+    fn from(b: Bound) -> Given {
+        let (kind, left, right) = match b {
+            Bound::Free => (FREE, 0, 0),
+            Bound::Unit => (UNIT, 0, 0),
+            Bound::Sum(left, right) => (SUM, left, right),
+            Bound::Product(left, right) => (PRODUCT, left, right),
+        };
+        Given { kind, left, right }
     }
 }
 
-// Adds an entry with its bound, in a class of its own. Its rank is 0 already, as that of every number past the entries.
-pub fn add(parent: &mut [u16], rows: &mut [u16], live: Mark, b: Bound) -> Added
+// What one turn of a join leaves to go on from: the pairs waiting and the links made.
+#[derive(Clone, Copy, Debug, PartialEq, Eq)]
+struct Going {
+    waiting: usize,
+    links: u16,
+}
+
+// Adds an entry with its bound, in a class of its own, and gives its number; None where no row is left. Its rank is 0 already,
+// as that of every number past the entries.
+pub fn add(parent: &mut [u16], rows: &mut [u16], live: Mark, b: Bound) -> Option<u16>
     requires { (rank trail : List ℕ) × Made (lent parent.old rank rows.old trail live) }
     ensures { (rank trail : List ℕ) →
         let was = lent parent.old rank rows.old trail live in
@@ -89,16 +68,16 @@ pub fn add(parent: &mut [u16], rows: &mut [u16], live: Mark, b: Bound) -> Added
     let entry = live.entries;
     let e = entry as usize;
     if parent.len() <= e {
-        return Added::Full;
+        return None;
     }
-    let given = numbers(b);
+    let given = Given::from(b);
     let row = ROW * e;
     parent[e] = entry;
     rows[row + KIND] = given.kind;
     rows[row + LEFT] = given.left;
     rows[row + RIGHT] = given.right;
     rows[row + SHAPE] = entry;
-    Added::Entry(entry)
+    Some(entry)
 }
 
 // The bound that entry a was given.
@@ -107,9 +86,9 @@ fn bound(rows: &[u16], a: u16) -> Bound
     ensures { result ≡ given_row rows.now a }
 {
     match cell(rows, a, KIND) {
-        0 => Bound::Free,
-        1 => Bound::Unit,
-        2 => Bound::Sum(cell(rows, a, LEFT), cell(rows, a, RIGHT)),
+        FREE => Bound::Free,
+        UNIT => Bound::Unit,
+        SUM => Bound::Sum(cell(rows, a, LEFT), cell(rows, a, RIGHT)),
         _ => Bound::Product(cell(rows, a, LEFT), cell(rows, a, RIGHT)),
     }
 }
@@ -123,13 +102,6 @@ pub fn shown(rows: &[u16], root: u16) -> Bound
     bound(rows, s)
 }
 
-// The number of the form that a kind is read as: past 3 it is a product.
-fn form(k: u16) -> u16
-    ensures { result ≡ min k 3 }
-{
-    if k < 3 { k } else { 3 }
-}
-
 // What follows when one class has the bounds that two roots show, the standing one's first.
 fn meet(rows: &[u16], two: Ranked) -> Meeting
     requires { Shows rows.now two.stands × Shows rows.now two.below }
@@ -141,16 +113,17 @@ fn meet(rows: &[u16], two: Ranked) -> Meeting
     let other = cell(rows, two.below, SHAPE);
     let k = cell(rows, own, KIND);
     let l = cell(rows, other, KIND);
-    if k == 0 {
+    if k == FREE {
         return Meeting::Agree;
     }
-    if l == 0 {
+    if l == FREE {
         return Meeting::Agree;
     }
-    if form(k) != form(l) {
+    // Past 3 a kind is read as a product.
+    if k.min(PRODUCT) != l.min(PRODUCT) {
         return Meeting::Apart;
     }
-    if k == 1 {
+    if k == UNIT {
         return Meeting::Agree;
     }
     Meeting::Parts(
@@ -176,8 +149,7 @@ fn push_parts(pending: &mut [u16], waiting: usize, met: Meeting) -> usize
     ensures { PartsPushed pending.old waiting met result pending.new }
 {
     match met {
-        Meeting::Apart => waiting,
-        Meeting::Agree => waiting,
+        Meeting::Apart | Meeting::Agree => waiting,
         Meeting::Parts(l, m, r, s) => {
             push(pending, waiting, r, s);
             push(pending, waiting + 1, l, m);
@@ -186,7 +158,7 @@ fn push_parts(pending: &mut [u16], waiting: usize, met: Meeting) -> usize
     }
 }
 
-// One turn of a join: takes the last pair and makes its two classes one, whose parts then wait.
+// One turn of a join: takes the last pair and makes its two classes one, whose parts then wait. None where two kinds differ.
 fn take_turn(
     parent: &mut [u16],
     rank: &mut [u16],
@@ -195,7 +167,7 @@ fn take_turn(
     pending: &mut [u16],
     links: u16,
     waiting: usize,
-) -> Turn
+) -> Option<Going>
     requires { (e : ℕ) × Turnable (laid parent.old rank.old rows.old trail.old e links) pending.old waiting }
     ensures { (e : ℕ) →
         let was = laid parent.old rank.old rows.old trail.old e links in
@@ -207,21 +179,26 @@ fn take_turn(
     let top = waiting - 1;
     let two = union_bound::top_roots(parent, rank, pending, top);
     if two.stands == two.below {
-        return Turn::Goes(top, links);
+        return Some(Going {
+            waiting: top,
+            links,
+        });
     }
     let met = meet(rows, two);
     if let Meeting::Apart = met {
-        return Turn::Clash;
+        return None;
     }
     let higher = union_bound::raised(rank, two);
     let shape = union_bound::shows(rows, two);
     union_bound::link(
         parent, rank, rows, trail, links, two.below, two.stands, higher, shape,
     );
-    Turn::Goes(push_parts(pending, top, met), links + 1)
+    let waiting = push_parts(pending, top, met);
+    let links = links + 1;
+    Some(Going { waiting, links })
 }
 
-// Joins the classes of a and b, and all that follows from it.
+// Joins the classes of a and b, and all that follows from it, and gives the links that it made: the fall in the number of classes.
 pub fn join(
     parent: &mut [u16],
     rank: &mut [u16],
@@ -231,7 +208,7 @@ pub fn join(
     live: Mark,
     a: u16,
     b: u16,
-) -> Joined
+) -> Result<u16, Clashed>
     requires made { Made (lent parent.old rank.old rows.old trail.old live) }
     requires a_lt_entries { (a < live.entries) × (b < live.entries) × (2 * length parent.old ≤ length pending.old) }
     ensures { let was = lent parent.old rank.old rows.old trail.old live in
@@ -243,14 +220,14 @@ pub fn join(
     let mut links = before;
     let mut waiting: usize = 1;
     push(pending, 0, a, b);
-    loop {
-        if waiting == 0 {
-            return Joined::Done(links - before);
-        }
-        let Turn::Goes(w, l) = take_turn(parent, rank, rows, trail, pending, links, waiting) else {
-            return Joined::Clash(links - before);
+    while 0 < waiting {
+        let Some(going) = take_turn(parent, rank, rows, trail, pending, links, waiting) else {
+            return Err(Clashed {
+                links: links - before,
+            });
         };
-        waiting = w;
-        links = l;
+        waiting = going.waiting;
+        links = going.links;
     }
+    Ok(links - before)
 }

@@ -14,6 +14,15 @@ pub const RIGHT: usize = 2;
 
 pub const SHAPE: usize = 3;
 
+// The kinds, as a row has them. A number past 3 is read as a product.
+pub const FREE: u16 = 0;
+
+pub const UNIT: u16 = 1;
+
+pub const SUM: u16 = 2;
+
+pub const PRODUCT: u16 = 3;
+
 // Numbers on the trail for each link.
 pub const LINK: usize = 3;
 

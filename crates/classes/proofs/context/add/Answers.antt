@@ -3,6 +3,7 @@ use mathlib.Core.Path.{◌≡◌, refl, subst}
 use mathlib.Core.List.{List, [], ◌∷◌}
 use Prim.Native.Nat.{ℕ, ◌+◌, ◌<◌}
 use native.Mathlib.Omega.{arith}
+use Rattle.std.specs.Prelude.{Some}
 use lib.ListN.{length, set, length-set}
 use Rattle.classes.specs.Table.{kind_of, left_of, right_of}
 use Rattle.classes.specs.Columns.{kind_at, left_at, right_at, shape_at, height, laid}
@@ -10,15 +11,14 @@ use Rattle.classes.specs.Made.{Made}
 use Rattle.classes.specs.Promises.{AddedBy}
 use Rattle.classes.specs.Promises.AddedBy.{entry, full}
 use Rattle.classes.specs.declared.Bound.{Bound}
-use Rattle.classes.specs.declared.context.Added.TheVariants.{Entry}
 use Rattle.classes.proofs.Closure.{made_good}
 use Rattle.classes.proofs.Columns.{length_column, written, rewritten, rewritten_column}
 use Rattle.classes.proofs.TakenBack.{put_same}
 use Rattle.classes.proofs.context.add.Goals as goal
-use Rattle.classes.proofs.context.add.Goals.{After-numbers-given}
+use Rattle.classes.proofs.context.add.Goals.{After-from-given}
 
 -- the entry's row is there
-there : (c : After-numbers-given) → c.args.live.entries < height c.args.rows.now
+there : (c : After-from-given) → c.args.live.entries < height c.args.rows.now
 there c =
     omega (arith, c.if-parent-e.false, (made_good c.requires.2).forest.kind_rows, length_column kind_at c.args.rows.now)
 
@@ -28,11 +28,11 @@ module _ (p r rows trail : List ℕ) (e n : ℕ) (b : Bound) {k l q : ℕ} (room
   abbrev row : List ℕ
   row = k ∷ l ∷ q ∷ e ∷ []
 
-  added-as : AddedBy (laid p r rows trail e n) b (Entry e) (laid (set p e e) r (rewritten rows e row) trail (e + 1) n)
+  added-as : AddedBy (laid p r rows trail e n) b (Some e) (laid (set p e e) r (rewritten rows e row) trail (e + 1) n)
   added-as =
       let stored = rewritten_column rows e row refl in
       let blank = put_same r e 0 ((made_good made).forest.rank_blank e (omega arith)) in
-      subst (λ (ranks : List ℕ). AddedBy (laid p r rows trail e n) b (Entry e) (laid (set p e e) ranks (rewritten rows e row) trail (e + 1) n)) blank
+      subst (λ (ranks : List ℕ). AddedBy (laid p r rows trail e n) b (Some e) (laid (set p e e) ranks (rewritten rows e row) trail (e + 1) n)) blank
       (rw (stored kind_at (omega arith), stored left_at (omega arith), stored right_at (omega arith), stored shape_at (omega arith), ek, el, eq) (entry room))
 
 pub returns-then-parent-e : goal.returns-then-parent-e
@@ -53,4 +53,4 @@ bounds-rows-row-4 c = simp length-set (omega (arith, there c))
 pub returns : goal.returns
 unfolding written
 returns c =
-    λ rank trail made. added-as _ rank _ trail _ _ _ c.if-parent-e.false c.numbers-given.ensures.0 c.numbers-given.ensures.1 c.numbers-given.ensures.2 made
+    λ rank trail made. added-as _ rank _ trail _ _ _ c.if-parent-e.false c.from-given.ensures.0 c.from-given.ensures.1 c.from-given.ensures.2 made

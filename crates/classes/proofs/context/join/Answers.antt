@@ -8,8 +8,8 @@ use lib.ListN.{length}
 use Rattle.classes.specs.Table.{Table}
 use Rattle.classes.specs.Columns.{laid}
 use Rattle.classes.specs.Turning.{waiting_in, Turned, links_then, waiting_then}
-use Rattle.classes.specs.declared.context.Turn.{Turn}
-use Rattle.classes.specs.declared.context.Turn.TheVariants.{Clash}
+use Rattle.std.specs.Prelude.{Option, None}
+use Rattle.classes.specs.declared.context.Going.{Going}
 use Rattle.classes.proofs.Joins.{Joinable, Looping, some_row, looping_pushed, turnable, looping_again, falls, join_ends, join_stops}
 use Rattle.classes.proofs.context.join.Goals as goal
 use Rattle.classes.proofs.context.join.Goals.{After-push-arg-1, After-take_turn, At-loop-waiting}
@@ -40,16 +40,16 @@ module _ (c : After-take_turn) where
   abbrev pending-then : List ℕ
   pending-then = c.take_turn.new.pending
 
-  abbrev left-with : ℕ → Turn → Table
+  abbrev left-with : ℕ → Option Going → Table
   left-with e r =
       laid c.take_turn.new.parent c.take_turn.new.rank c.take_turn.new.rows c.take_turn.new.trail e (links_then c.loop-waiting.links r)
 
-  abbrev Left : ℕ → Turn → Type 0
+  abbrev Left : ℕ → Option Going → Type 0
   Left e r = Turned (table-now (goal.at.After-take_turn c).At-loop-waiting e) (waiting_in c.loop-waiting.pending c.loop-waiting.waiting) c.loop-waiting.waiting r (left-with e r) (waiting_in pending-then (waiting_then r))
 
   turned : {e : ℕ} → Looping (given-table (goal.at.After-take_turn c).At-loop-waiting e) c.args.a c.args.b (table-now (goal.at.After-take_turn c).At-loop-waiting e) c.loop-waiting.pending c.loop-waiting.waiting →
-      (r : Turn) → c.take_turn.result ≡ r → Left e r
-  turned {e} l r is = subst (Left e) is (c.take_turn.ensures e (turnable l c.if-waiting-eq0.false))
+      (r : Option Going) → c.take_turn.result ≡ r → Left e r
+  turned {e} l r is = subst (Left e) is (c.take_turn.ensures e (turnable l (omega (arith, c.loop-waiting-test.true))))
 
 pub push-requires : goal.push-requires
 push-requires c = some_row (asked c)
@@ -60,30 +60,27 @@ loop-waiting-init c = ((refl, refl, refl, refl, refl), λ e j. looping_pushed c.
 pub overflow_sub-result : goal.overflow_sub-result
 overflow_sub-result c = omega (arith, (looping (goal.at.overflow_sub-result c).At-loop-waiting).more)
 
-pub shape_of-parent-then-waiting-eq0 : goal.shape_of-parent-then-waiting-eq0
-shape_of-parent-then-waiting-eq0 c = c.loop-waiting.invariant.0.0
+pub shape_of-parent : goal.shape_of-parent
+shape_of-parent c = c.loop-waiting.invariant.0.0
 
-pub shape_of-rank-then-waiting-eq0 : goal.shape_of-rank-then-waiting-eq0
-shape_of-rank-then-waiting-eq0 c = c.loop-waiting.invariant.0.1
+pub shape_of-rank : goal.shape_of-rank
+shape_of-rank c = c.loop-waiting.invariant.0.1
 
-pub shape_of-rows-then-waiting-eq0 : goal.shape_of-rows-then-waiting-eq0
-shape_of-rows-then-waiting-eq0 c = c.loop-waiting.invariant.0.2
+pub shape_of-rows : goal.shape_of-rows
+shape_of-rows c = c.loop-waiting.invariant.0.2
 
-pub shape_of-trail-then-waiting-eq0 : goal.shape_of-trail-then-waiting-eq0
-shape_of-trail-then-waiting-eq0 c = c.loop-waiting.invariant.0.3
+pub shape_of-trail : goal.shape_of-trail
+shape_of-trail c = c.loop-waiting.invariant.0.3
 
-pub shape_of-pending-then-waiting-eq0 : goal.shape_of-pending-then-waiting-eq0
-shape_of-pending-then-waiting-eq0 c = c.loop-waiting.invariant.0.4 ∙ c.push.auto.pending
+pub shape_of-pending : goal.shape_of-pending
+shape_of-pending c = c.loop-waiting.invariant.0.4 ∙ c.push.auto.pending
 
-pub returns-then-waiting-eq0 : goal.returns-then-waiting-eq0
-returns-then-waiting-eq0 c = join_ends (asked-then (goal.at.returns-then-waiting-eq0 c).At-loop-waiting) (looping (goal.at.returns-then-waiting-eq0 c).At-loop-waiting) c.if-waiting-eq0.true
+pub returns : goal.returns
+returns c = join_ends (asked-then (goal.at.returns c).At-loop-waiting) (looping (goal.at.returns c).At-loop-waiting) (omega (arith, c.loop-waiting-test.false))
 
 pub take_turn-requires : goal.take_turn-requires
 take_turn-requires c =
-    (c.args.live.entries, turnable (looping (goal.at.take_turn-requires c).At-loop-waiting) c.if-waiting-eq0.false)
-
-pub overflow_sub-result-in_default : goal.overflow_sub-result-in_default
-overflow_sub-result-in_default c = omega (arith, (looping (goal.at.overflow_sub-result-in_default c).At-loop-waiting).more)
+    (c.args.live.entries, turnable (looping (goal.at.take_turn-requires c).At-loop-waiting) (omega (arith, c.loop-waiting-test.true)))
 
 pub shape_of-parent-in_default : goal.shape_of-parent-in_default
 shape_of-parent-in_default c = c.take_turn.auto.parent ∙ c.loop-waiting.invariant.0.0
@@ -101,11 +98,11 @@ pub shape_of-pending-in_default : goal.shape_of-pending-in_default
 shape_of-pending-in_default c = c.take_turn.auto.pending ∙ c.loop-waiting.invariant.0.4 ∙ c.push.auto.pending
 
 pub returns-in_default : goal.returns-in_default
-returns-in_default c = join_stops (asked-then (goal.at.returns-in_default c).At-loop-waiting) (looping (goal.at.returns-in_default c).At-loop-waiting) refl (turned (goal.at.returns-in_default c).After-take_turn (looping (goal.at.returns-in_default c).At-loop-waiting) Clash c.in_default.is)
+returns-in_default c = join_stops (asked-then (goal.at.returns-in_default c).At-loop-waiting) (looping (goal.at.returns-in_default c).At-loop-waiting) refl (turned (goal.at.returns-in_default c).After-take_turn (looping (goal.at.returns-in_default c).At-loop-waiting) None c.in_default.is)
 
 pub loop-waiting-smaller : goal.loop-waiting-smaller
 loop-waiting-smaller c =
-    let t = turned (goal.at.loop-waiting-smaller c).After-take_turn (looping (goal.at.loop-waiting-smaller c).At-loop-waiting) _ c.in-Goes.is in
+    let t = turned (goal.at.loop-waiting-smaller c).After-take_turn (looping (goal.at.loop-waiting-smaller c).At-loop-waiting) _ c.in-Some.is in
     falls (length c.args.parent.now) _ c.loop-waiting.waiting (looping (goal.at.loop-waiting-smaller c).At-loop-waiting).forest t.1 c.loop-waiting.invariant.0.0 (c.take_turn.auto.parent ∙ c.loop-waiting.invariant.0.0) t.5
 
 pub loop-waiting-preserved : goal.loop-waiting-preserved
@@ -113,5 +110,5 @@ loop-waiting-preserved c = (
   (c.take_turn.auto.parent ∙ c.loop-waiting.invariant.0.0, c.take_turn.auto.rank ∙ c.loop-waiting.invariant.0.1, c.take_turn.auto.rows ∙ c.loop-waiting.invariant.0.2, c.take_turn.auto.trail ∙ c.loop-waiting.invariant.0.3, c.take_turn.auto.pending ∙ c.loop-waiting.invariant.0.4),
   λ e j.
       let l = c.loop-waiting.invariant.1 e j in
-      looping_again l _ _ (turned (goal.at.loop-waiting-preserved c).After-take_turn l _ c.in-Goes.is) refl refl c.take_turn.auto.pending,
+      looping_again l _ _ (turned (goal.at.loop-waiting-preserved c).After-take_turn l _ c.in-Some.is) refl refl c.take_turn.auto.pending,
 )

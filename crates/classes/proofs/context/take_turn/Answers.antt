@@ -84,19 +84,19 @@ link-requires c =
     let two = ready (goal.at.link-requires c).Else-two in
     (omega (arith, two.below_live, two.forest.room), in_rank two two.stands_live, (rows-there (goal.at.link-requires c).Else-two).0.0, omega (arith, two.links_few, two.forest.room, two.forest.trail_rows))
 
-pub push_parts-requires : goal.push_parts-requires
-push_parts-requires c =
-    omega (arith, (ready (goal.at.push_parts-requires c).Else-two).links_few, c.requires.1.waiting_few, c.requires.1.some, c.requires.1.pending_room)
+pub push_parts-waiting-requires : goal.push_parts-waiting-requires
+push_parts-waiting-requires c =
+    omega (arith, (ready (goal.at.push_parts-waiting-requires c).Else-two).links_few, c.requires.1.waiting_few, c.requires.1.some, c.requires.1.pending_room)
 
-pub overflow_add-result : goal.overflow_add-result
-overflow_add-result c =
-    let two = ready (goal.at.overflow_add-result c).Else-two in
+pub overflow_add-links : goal.overflow_add-links
+overflow_add-links c =
+    let two = ready (goal.at.overflow_add-links c).Else-two in
     omega (arith, two.links_few, two.forest.room, two.forest.small)
 
 pub returns : goal.returns
 returns c =
     λ e ready.
-    turn_links ready (differ (goal.at.returns c).Else-two) (left_by (goal.at.returns c).After-link e) c.push_parts.result c.push_parts.new.pending
+    turn_links ready (differ (goal.at.returns c).Else-two) (left_by (goal.at.returns c).After-link e) c.push_parts-waiting.result c.push_parts-waiting.new.pending
     (λ same. c.in_default.not-Apart (meeting-is (goal.at.returns c).After-meet-met e ∙ same))
     (linked-is (goal.at.returns c).After-link e)
-    (subst (λ (x : Meeting). PartsPushed c.args.pending.now (c.args.waiting - 1) x c.push_parts.result c.push_parts.new.pending) (meeting-is (goal.at.returns c).After-meet-met e) c.push_parts.ensures)
+    (subst (λ (x : Meeting). PartsPushed c.args.pending.now (c.args.waiting - 1) x c.push_parts-waiting.result c.push_parts-waiting.new.pending) (meeting-is (goal.at.returns c).After-meet-met e) c.push_parts-waiting.ensures)

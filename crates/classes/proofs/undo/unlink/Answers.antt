@@ -1,4 +1,5 @@
 -- `classes::undo::unlink` meets its contract: the rows that the trail names are there.
+use mathlib.Core.Path.{◌≡◌}
 use Prim.Native.Nat.{ℕ, ◌+◌, ◌-◌, ◌*◌, ◌<◌}
 use native.Mathlib.Omega.{arith}
 use lib.ListN.{length, get_or, length-set}
@@ -9,19 +10,19 @@ use Rattle.classes.proofs.undo.unlink.Goals.{Start}
 
 -- the root that went below, and the one above it
 abbrev below : Start → ℕ
-below c = get_or c.args.trail.now (3 * (c.args.links - 1)) 0
+below c = get_or c.args.trail.now (3 * (c.args.last)) 0
 
 abbrev stands : Start → ℕ
 stands c = get_or c.args.parent.now (below c) 0
 
 below_live : (c : Start) → below c < length c.args.parent.now
-below_live c = c.requires.undoable.belows (c.args.links - 1) (omega arith)
+below_live c = c.requires.belows (c.args.last) (omega arith)
 
 stands_live : (c : Start) → stands c < length c.args.parent.now
-stands_live c = c.requires.undoable.parents (below c) (below_live c)
+stands_live c = c.requires.parents (below c) (below_live c)
 
 stands-row : (c : Start) → stands c < height c.args.rows.now
-stands-row c = omega (arith, stands_live c, c.requires.undoable.shape_rows, length_column shape_at c.args.rows.now)
+stands-row c = omega (arith, stands_live c, c.requires.shape_rows, length_column shape_at c.args.rows.now)
 
 pub overflow_cast-b : goal.overflow_cast-b
 overflow_cast-b c = omega (arith, below_live (goal.at.overflow_cast-b c).Start)
@@ -67,4 +68,6 @@ bounds-trail-note-6 c = simp length-set (omega arith)
 
 pub returns : goal.returns
 returns c =
-    let kept = column_kept c.args.rows.now (stands (goal.at.returns c).Start) shape_at (get_or c.args.trail.now (3 * (c.args.links - 1) + 2) 0) (omega arith) in record { by_index = (λ k l q e. rw (column_set c.args.rows.now (stands (goal.at.returns c).Start) shape_at _ (omega arith))); same_bounds = (kept kind_at (omega arith) (omega arith), kept left_at (omega arith) (omega arith), kept right_at (omega arith) (omega arith)) }
+    let kept = column_kept c.args.rows.now (stands (goal.at.returns c).Start) shape_at (get_or c.args.trail.now (3 * (c.args.last) + 2) 0) (omega arith) in
+    let own : c.args.last + 1 - 1 ≡ c.args.last = omega arith in
+    record { by_index = (λ k l q e. rw (own, column_set c.args.rows.now (stands (goal.at.returns c).Start) shape_at _ (omega arith))); same_bounds = (kept kind_at (omega arith) (omega arith), kept left_at (omega arith) (omega arith), kept right_at (omega arith) (omega arith)) }

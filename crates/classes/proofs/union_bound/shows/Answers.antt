@@ -10,8 +10,8 @@ use Rattle.classes.proofs.union_bound.shows.Goals.{After-cell}
 own-kind : (c : After-cell) → get_or (kinds c.args.rows.now) (get_or (shapes c.args.rows.now) c.args.two.stands 0) 0 ≡ c.cell.result
 own-kind c = rw (sym c.cell-own.ensures) (sym c.cell.ensures)
 
-pub returns-then-cell-eq0 : goal.returns-then-cell-eq0
-returns-then-cell-eq0 c = c.cell-then-cell-eq0.ensures ∙ shows_other _ _ _ _ _ (own-kind (goal.at.returns-then-cell-eq0 c).After-cell ∙ c.if-cell-eq0.true)
+pub returns-then-cell-eq-FREE : goal.returns-then-cell-eq-FREE
+returns-then-cell-eq-FREE c = c.cell-then-cell-eq-FREE.ensures ∙ shows_other _ _ _ _ _ (own-kind (goal.at.returns-then-cell-eq-FREE c).After-cell ∙ c.if-cell-eq-FREE.true)
 
-pub returns-else-cell-eq0 : goal.returns-else-cell-eq0
-returns-else-cell-eq0 c = c.cell-own.ensures ∙ shows_own _ _ _ _ _ (λ e. c.if-cell-eq0.false (sym (own-kind (goal.at.returns-else-cell-eq0 c).After-cell) ∙ e))
+pub returns-else-cell-eq-FREE : goal.returns-else-cell-eq-FREE
+returns-else-cell-eq-FREE c = c.cell-own.ensures ∙ shows_own _ _ _ _ _ (λ e. c.if-cell-eq-FREE.false (sym (own-kind (goal.at.returns-else-cell-eq-FREE c).After-cell) ∙ e))
