@@ -1,12 +1,8 @@
 -- `classes::union_bound::link` meets its contract: the store to a row is a store to the column of shapes.
 use native.Mathlib.Omega.{arith}
-use lib.ListN.{length-set}
 use Rattle.classes.specs.Columns.{kind_at, left_at, right_at, shape_at}
 use Rattle.classes.proofs.Columns.{cell, column_set, column_kept}
 use Rattle.classes.proofs.union_bound.link.Goals as goal
-
-pub bounds-trail-note-2 : goal.bounds-trail-note-2
-bounds-trail-note-2 c = simp length-set (omega arith)
 
 pub returns : goal.returns
 returns c =

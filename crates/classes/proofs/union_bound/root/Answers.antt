@@ -1,18 +1,8 @@
 -- `classes::union_bound::root` meets its contract. The invariant: the entry reached has the root of the one that was asked for.
-use mathlib.Core.Path.{refl, sym, ◌∙◌}
-use native.Mathlib.Omega.{arith}
+use mathlib.Core.Path.{sym, ◌∙◌}
 use Rattle.classes.proofs.Roots.{root_of_own}
 use Rattle.classes.proofs.Searching.{here_live, same_root, parent_rooted, parent_nearer}
 use Rattle.classes.proofs.union_bound.root.Goals as goal
-
-pub loop-at-init : goal.loop-at-init
-loop-at-init c = (c.requires, refl)
-
-pub overflow_cast-up : goal.overflow_cast-up
-overflow_cast-up c = let h = here_live c.loop-at.invariant.0 in omega (arith, h)
-
-pub offset_bounds-parent-at : goal.offset_bounds-parent-at
-offset_bounds-parent-at c = let h = here_live c.loop-at.invariant.0 in omega (arith, h)
 
 pub bounds-parent-at : goal.bounds-parent-at
 bounds-parent-at c = here_live c.loop-at.invariant.0
