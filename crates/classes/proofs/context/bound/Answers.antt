@@ -1,1 +1,0 @@
--- `classes::context::bound` meets its contract.

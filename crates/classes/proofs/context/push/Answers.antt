@@ -1,1 +1,0 @@
--- `classes::context::push` meets its contract.

@@ -1,1 +1,0 @@
--- `classes::context::shown` meets its contract: what is read of the root's row is its shape.

@@ -1,1 +1,0 @@
--- `classes::union_bound::by_rank` meets its contract.

@@ -1,1 +1,0 @@
--- `classes::union_bound::raised` meets its contract.

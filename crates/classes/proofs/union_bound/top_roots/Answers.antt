@@ -1,1 +1,0 @@
--- `classes::union_bound::top_roots` meets its contract.
