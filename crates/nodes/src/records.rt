@@ -18,7 +18,7 @@ pub const LARGEST_WORD: u16 = 31;
 fn two_bytes(low: u8, high: u8) -> u16
     ensures { result ≡ low + 256 * high }
 {
-    (low as u16) + 256 * (high as u16)
+    u16::from_le_bytes([low, high])
 }
 
 // A field that must be zero.
