@@ -10,7 +10,7 @@ pub mod records;
 
 ghost use Rattle.std.specs.Prelude.{◌≡◌, ℕ, length};
 ghost use Rattle.nodes.specs.Layout.{children};
-ghost use Rattle.nodes.specs.Coded.{named, node_of, kind_number, Regular};
+ghost use Rattle.nodes.specs.Coded.{named, node_of, kind_number, KindRead, Regular};
 
 // A combinator and its children's numbers, in the order of document 01's table; a word's n for Word.
 #[derive(Clone, Copy, Debug, PartialEq, Eq)]
@@ -59,6 +59,38 @@ impl From<Kind> for u16 {
 
     fn from(kind: Kind) -> u16 {
         kind as u16
+    }
+}
+
+// A byte that is no combinator's number.
+#[derive(Clone, Copy, Debug, PartialEq, Eq)]
+pub struct UnknownKind(pub u8);
+
+impl TryFrom<u8> for Kind {
+    type Error = UnknownKind;
+
+    ghost try_from_gives = { KindRead };
+
+    fn try_from(number: u8) -> Result<Self, UnknownKind> {
+        match number {
+            1 => Ok(Kind::Iden),
+            2 => Ok(Kind::Unit),
+            3 => Ok(Kind::InjL),
+            4 => Ok(Kind::InjR),
+            5 => Ok(Kind::Take),
+            6 => Ok(Kind::Drop),
+            7 => Ok(Kind::Comp),
+            8 => Ok(Kind::Case),
+            9 => Ok(Kind::AssertL),
+            10 => Ok(Kind::AssertR),
+            11 => Ok(Kind::Pair),
+            12 => Ok(Kind::Disconnect),
+            13 => Ok(Kind::DisconnectHole),
+            14 => Ok(Kind::Witness),
+            15 => Ok(Kind::Fail),
+            16 => Ok(Kind::Word),
+            _ => Err(UnknownKind(number)),
+        }
     }
 }
 
