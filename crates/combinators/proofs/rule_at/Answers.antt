@@ -18,11 +18,11 @@ last_row c =
 pub case_rule-requires : goal.case_rule-requires
 case_rule-requires c = (c.requires.0.0, rw c.in-Case.is at c.requires.2)
 
-pub assertl_rule-requires : goal.assertl_rule-requires
-assertl_rule-requires c = (c.requires.0.0, rw c.in-AssertL.is at c.requires.2)
+pub half_rule-requires : goal.half_rule-requires
+half_rule-requires c = (c.requires.0.0, rw c.in-AssertL.is at c.requires.2)
 
-pub assertr_rule-requires : goal.assertr_rule-requires
-assertr_rule-requires c = (c.requires.0.0, rw c.in-AssertR.is at c.requires.2)
+pub half_rule-requires-in-AssertR : goal.half_rule-requires-in-AssertR
+half_rule-requires-in-AssertR c = (c.requires.0.0, rw c.in-AssertR.is at c.requires.2)
 
 pub disconnect_rule-requires : goal.disconnect_rule-requires
 disconnect_rule-requires c = rw c.in-Disconnect.is at c.requires.2
@@ -34,10 +34,10 @@ pub returns-in-Case : goal.returns-in-Case
 returns-in-Case c = rw c.in-Case.is c.case_rule.ensures
 
 pub returns-in-AssertL : goal.returns-in-AssertL
-returns-in-AssertL c = rw c.in-AssertL.is c.assertl_rule.ensures
+returns-in-AssertL c = rw c.in-AssertL.is c.half_rule.ensures
 
 pub returns-in-AssertR : goal.returns-in-AssertR
-returns-in-AssertR c = rw c.in-AssertR.is c.assertr_rule.ensures
+returns-in-AssertR c = rw c.in-AssertR.is c.half_rule-in-AssertR.ensures
 
 pub returns-in-Disconnect : goal.returns-in-Disconnect
 returns-in-Disconnect c = rw c.in-Disconnect.is c.disconnect_rule.ensures

@@ -1,6 +1,6 @@
--- `combinators::each::assertr` meets its contract: the entries of its half, and all rules are left.
+-- `combinators::each::assertr` meets its contract: the entries of a case, and all rules are left.
 use mathlib.Core.Path.{refl}
 use Rattle.combinators.proofs.each.assertr.Goals as goal
 
 pub returns : goal.returns
-returns c = λ rank trail able. record { is = c.add_case-entries.ensures rank trail able; gives = refl; left = (refl, c.assertr_rule-first.ensures) }
+returns c = λ rank trail able. record { is = c.enter_case.ensures.entries rank trail able; gives = c.enter_case.ensures.row.0; left = rw (c.enter_case.ensures.row.1, c.enter_case.ensures.row.2) (refl, c.half_rule-first.ensures) }
