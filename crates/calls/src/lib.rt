@@ -5,7 +5,6 @@
 
 ghost use Rattle.std.specs.Prelude.{◌≡◌, [], ◌≤◌, length, set};
 ghost use Rattle.nodes.specs.Layout.{word_of};
-ghost use Rattle.nodes.specs.Coded.{node_of, Regular};
 ghost use Rattle.types.specs.Limits.{longest_listing, most_nodes};
 ghost use Rattle.types.specs.States.{Opened};
 ghost use Rattle.calls.specs.Values.{state_of};
@@ -14,7 +13,7 @@ ghost use Rattle.calls.specs.Handed.{Handed};
 ghost use Rattle.nodes.specs.declared.Record.TheVariants.{Offer, TakeBack, Close};
 
 use nodes::records::LARGEST_WORD;
-use nodes::{Coded, Kind, Node};
+use nodes::{Coded, Node};
 use types::limits::{ENTRIES, LISTING, NODE_ROWS, PENDING, ROWS, TRAIL, WORK};
 use types::state::Live;
 use types::{Answer, state};
@@ -69,54 +68,7 @@ pub fn open() -> Owned
 fn word_of(n: Node) -> u16
     ensures { result ≡ word_of n }
 {
-    match n {
-        Node::Iden => 0,
-        Node::Unit => 0,
-        Node::InjL(_) => 0,
-        Node::InjR(_) => 0,
-        Node::Take(_) => 0,
-        Node::Drop(_) => 0,
-        Node::Comp(_, _) => 0,
-        Node::Case(_, _) => 0,
-        Node::AssertL(_) => 0,
-        Node::AssertR(_) => 0,
-        Node::Pair(_, _) => 0,
-        Node::Disconnect(_, _) => 0,
-        Node::DisconnectHole(_) => 0,
-        Node::Witness => 0,
-        Node::Fail => 0,
-        Node::Word(n) => n,
-    }
-}
-
-fn numbers(kind: Kind, a: u16, b: u16) -> Coded
-    ensures { (result.kind ≡ kind) × (result.a ≡ a) × (result.b ≡ b) }
-{
-    Coded { kind, a, b }
-}
-
-// A node as the core takes it.
-fn coded(n: Node) -> Coded
-    ensures { (node_of result ≡ n) × Regular result }
-{
-    match n {
-        Node::Iden => numbers(Kind::Iden, 0, 0),
-        Node::Unit => numbers(Kind::Unit, 0, 0),
-        Node::InjL(i) => numbers(Kind::InjL, i, 0),
-        Node::InjR(i) => numbers(Kind::InjR, i, 0),
-        Node::Take(i) => numbers(Kind::Take, i, 0),
-        Node::Drop(i) => numbers(Kind::Drop, i, 0),
-        Node::Comp(i, j) => numbers(Kind::Comp, i, j),
-        Node::Case(i, j) => numbers(Kind::Case, i, j),
-        Node::AssertL(i) => numbers(Kind::AssertL, i, 0),
-        Node::AssertR(i) => numbers(Kind::AssertR, i, 0),
-        Node::Pair(i, j) => numbers(Kind::Pair, i, j),
-        Node::Disconnect(i, j) => numbers(Kind::Disconnect, i, j),
-        Node::DisconnectHole(i) => numbers(Kind::DisconnectHole, i, 0),
-        Node::Witness => numbers(Kind::Witness, 0, 0),
-        Node::Fail => numbers(Kind::Fail, 0, 0),
-        Node::Word(n) => numbers(Kind::Word, n, 0),
-    }
+    if let Node::Word(n) = n { n } else { 0 }
 }
 
 // Offers a node: the checks in the order 1, 3, 2, 4.
@@ -145,7 +97,7 @@ pub fn offer(s: Owned, n: Node) -> After
         &mut pending,
         &mut nodes,
         live,
-        coded(n),
+        Coded::from(n),
     );
     let answer = step.answer;
     let live = step.live;

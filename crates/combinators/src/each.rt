@@ -5,13 +5,13 @@
 ghost use Rattle.std.specs.Prelude.{◌≡◌, [], ◌∷◌, ◌+◌, ◌^◌, ◌≤◌, ◌<◌, get_or};
 ghost use Rattle.classes.specs.Table.{root_in};
 ghost use Rattle.classes.specs.Turning.{Rooted};
-ghost use Rattle.nodes.specs.Layout.{arrow, says};
+ghost use Rattle.nodes.specs.Layout.{arrow, says, case_entries};
 ghost use Rattle.nodes.specs.Meant.{meant_rule};
 ghost use Rattle.nodes.specs.declared.Node.TheVariants.{Iden, Unit, InjL, InjR, Take, Drop, Comp, Case, AssertL, AssertR, Pair, Disconnect, DisconnectHole, Witness, Word};
-ghost use Rattle.combinators.specs.Entering.{part, Room, Ready, Enters, without_rules, leaf, unary, binary};
+ghost use Rattle.combinators.specs.Entering.{part, Room, Grown, Ready, Enters, without_rules, leaf, unary, binary};
 
 use super::Placed;
-use super::entries::{add_case, add_one, add_three, add_two};
+use super::entries::add;
 use classes::{Bound, union_bound};
 use nodes::arrow::{Arrow, Rule};
 
@@ -29,9 +29,9 @@ const COMP_MIDDLE: u16 = 1;
 
 const PAIR_SOURCES: u16 = 2;
 
-const CASE_LEFT_SOURCE: u16 = 3;
+pub(super) const CASE_LEFT_SOURCE: u16 = 3;
 
-const CASE_RIGHT_SOURCE: u16 = 4;
+pub(super) const CASE_RIGHT_SOURCE: u16 = 4;
 
 const CASE_TARGETS: u16 = 5;
 
@@ -52,69 +52,70 @@ fn unmet(parent: &[u16], rule: Rule) -> u16
         let other = root_in parent.now rule.other in
         (one ≡ other → result ≡ 0) × ((one ≡ other → ⊥) → result ≡ 1) }
 {
-    if union_bound::root(parent, rule.one) == union_bound::root(parent, rule.other) {
-        0
-    } else {
-        1
-    }
+    u16::from(union_bound::root(parent, rule.one) != union_bound::root(parent, rule.other))
 }
 
-// A row of one entry, without rules. What stands for the first rule is never joined; it is no row of zeros, which the compiler would
-// write as one number of eight bytes and every other row would have to be packed to match.
-fn enter_one(
+// A row without rules. What stands for the first rule is never joined; it is no row of zeros, which the compiler would write as one
+// number of eight bytes and every other row would have to be packed to match.
+fn enter_without_rules<const N: usize>(
     parent: &mut [u16],
     rows: &mut [u16],
     links: u16,
     e: u16,
-    b: Bound,
+    bounds: [Bound; N],
     source: u16,
     target: u16,
 ) -> Placed
-    requires { Room (part parent.old rows.old e links) (b ∷ []) }
+    requires { Room (part parent.old rows.old e links) bounds }
     ensures { let was = part parent.old rows.old e links in
         let is = part parent.new rows.new result.entries links in
-        Enters was (without_rules (b ∷ []) (arrow source target)) result is }
+        Enters was (without_rules bounds.entry (arrow source target)) result is }
 {
-    let entries = add_one(parent, rows, links, e, b);
-    let gives = Arrow {
-        source: source,
-        target: target,
-    };
-    let first = says(NO_RULE, source, target);
+    let entries = add(parent, rows, links, e, bounds);
     Placed {
         entries,
-        gives,
+        gives: Arrow { source, target },
         rules: 0,
-        first,
+        first: says(NO_RULE, source, target),
     }
 }
 
-// A row of two entries, without rules.
-fn enter_two(
+// A case or a half of one: A, B, C, D at e to e + 3, A + B at e + 4, (A + B) × C at e + 5, and then the products that its children's
+// sources are. All its rules are left.
+fn enter_case<const N: usize>(
     parent: &mut [u16],
     rows: &mut [u16],
     links: u16,
     e: u16,
-    a: Bound,
-    b: Bound,
-    source: u16,
-    target: u16,
+    products: [Bound; N],
+    rules: u16,
+    first: Rule,
 ) -> Placed
-    requires { Room (part parent.old rows.old e links) (a ∷ b ∷ []) }
-    ensures { let was = part parent.old rows.old e links in
+    requires entries_bound { e + 8 < 2 ^ 16 }
+    requires room { Room (part parent.old rows.old e links) (case_entries e products) }
+    ensures entries { let was = part parent.old rows.old e links in
         let is = part parent.new rows.new result.entries links in
-        Enters was (without_rules (a ∷ b ∷ []) (arrow source target)) result is }
+        Grown was (case_entries e products.entry) is }
+    ensures row { (result.gives ≡ arrow (e + 5) (e + 3)) × (result.rules ≡ rules) × (result.first ≡ first) }
 {
-    let entries = add_two(parent, rows, links, e, a, b);
-    let gives = Arrow {
-        source: source,
-        target: target,
-    };
-    let first = says(NO_RULE, source, target);
+    let sum = Bound::Sum(e, e + 1);
+    let source = Bound::Product(e + 4, e + 2);
+    let free = Bound::Free;
+    let six = add(
+        parent,
+        rows,
+        links,
+        e,
+        [free, free, free, free, sum, source],
+    );
+    let entries = add(parent, rows, links, six, products);
     Placed {
         entries,
-        gives,
-        rules: 0,
+        gives: Arrow {
+            source: e + 5,
+            target: e + 3,
+        },
+        rules,
         first,
     }
 }
@@ -126,7 +127,7 @@ pub(super) fn iden(parent: &mut [u16], rows: &mut [u16], links: u16, e: u16) -> 
         let is = part parent.new rows.new result.entries links in
         Enters was (leaf Iden e) result is }
 {
-    enter_one(parent, rows, links, e, Bound::Free, e, e)
+    enter_without_rules(parent, rows, links, e, [Bound::Free], e, e)
 }
 
 // A → 1.
@@ -136,7 +137,7 @@ pub(super) fn unit(parent: &mut [u16], rows: &mut [u16], links: u16, e: u16) -> 
         let is = part parent.new rows.new result.entries links in
         Enters was (leaf Unit e) result is }
 {
-    enter_one(parent, rows, links, e, Bound::Free, e, ONE)
+    enter_without_rules(parent, rows, links, e, [Bound::Free], e, ONE)
 }
 
 // A → B + C, where s : A → B.
@@ -147,7 +148,7 @@ pub(super) fn injl(parent: &mut [u16], rows: &mut [u16], links: u16, s: Arrow, e
         Enters was (unary InjL s e) result is }
 {
     let b = Bound::Sum(s.target, e);
-    enter_two(parent, rows, links, e, Bound::Free, b, s.source, e + 1)
+    enter_without_rules(parent, rows, links, e, [Bound::Free, b], s.source, e + 1)
 }
 
 // A → B + C, where s : A → C.
@@ -158,7 +159,7 @@ pub(super) fn injr(parent: &mut [u16], rows: &mut [u16], links: u16, s: Arrow, e
         Enters was (unary InjR s e) result is }
 {
     let b = Bound::Sum(e, s.target);
-    enter_two(parent, rows, links, e, Bound::Free, b, s.source, e + 1)
+    enter_without_rules(parent, rows, links, e, [Bound::Free, b], s.source, e + 1)
 }
 
 // A × B → C, where s : A → C.
@@ -169,7 +170,7 @@ pub(super) fn take(parent: &mut [u16], rows: &mut [u16], links: u16, s: Arrow, e
         Enters was (unary Take s e) result is }
 {
     let b = Bound::Product(s.source, e);
-    enter_two(parent, rows, links, e, Bound::Free, b, e + 1, s.target)
+    enter_without_rules(parent, rows, links, e, [Bound::Free, b], e + 1, s.target)
 }
 
 // A × B → C, where s : B → C.
@@ -180,7 +181,7 @@ pub(super) fn drop(parent: &mut [u16], rows: &mut [u16], links: u16, s: Arrow, e
         Enters was (unary Drop s e) result is }
 {
     let b = Bound::Product(e, s.source);
-    enter_two(parent, rows, links, e, Bound::Free, b, e + 1, s.target)
+    enter_without_rules(parent, rows, links, e, [Bound::Free, b], e + 1, s.target)
 }
 
 // A → C, where s : A → B and t : B → C. It adds no entry.
@@ -222,21 +223,10 @@ pub(super) fn case(
         let is = part parent.new rows.new result.entries links in
         Enters was (binary Case s t e) result is }
 {
-    let gives = Arrow {
-        source: e + 5,
-        target: e + 3,
-    };
     let first = case_rule(s, t, e, 0);
     let left = Bound::Product(e, e + 2);
     let right = Bound::Product(e + 1, e + 2);
-    let seven = add_case(parent, rows, links, e, left);
-    let entries = add_one(parent, rows, links, seven, right);
-    Placed {
-        entries,
-        gives,
-        rules: 4,
-        first,
-    }
+    enter_case(parent, rows, links, e, [left, right], 4, first)
 }
 
 // Its rules: source s = A × C, D = target s, source t = B × C, D = target t.
@@ -259,31 +249,8 @@ pub(super) fn assertl(parent: &mut [u16], rows: &mut [u16], links: u16, s: Arrow
         let is = part parent.new rows.new result.entries links in
         Enters was (unary AssertL s e) result is }
 {
-    let gives = Arrow {
-        source: e + 5,
-        target: e + 3,
-    };
-    let first = assertl_rule(s, e, 0);
-    let half = Bound::Product(e, e + 2);
-    let entries = add_case(parent, rows, links, e, half);
-    Placed {
-        entries,
-        gives,
-        rules: 2,
-        first,
-    }
-}
-
-// Its rules: source s = A × C, D = target s.
-pub(super) fn assertl_rule(s: Arrow, e: u16, i: u16) -> Rule
-    requires { (e + 8 < 2 ^ 16) × (i < 2) }
-    ensures { meant_rule result ≡ get_or (unary AssertL s e).needs i (says 0 0 0) }
-{
-    if i == 0 {
-        says(CASE_LEFT_SOURCE, s.source, e + 6)
-    } else {
-        says(D_IS_TARGET, e + 3, s.target)
-    }
+    let first = half_rule(CASE_LEFT_SOURCE, s, e, 0);
+    enter_case(parent, rows, links, e, [Bound::Product(e, e + 2)], 2, first)
 }
 
 // A case whose first child is hidden.
@@ -293,28 +260,25 @@ pub(super) fn assertr(parent: &mut [u16], rows: &mut [u16], links: u16, s: Arrow
         let is = part parent.new rows.new result.entries links in
         Enters was (unary AssertR s e) result is }
 {
-    let gives = Arrow {
-        source: e + 5,
-        target: e + 3,
-    };
-    let first = assertr_rule(s, e, 0);
-    let half = Bound::Product(e + 1, e + 2);
-    let entries = add_case(parent, rows, links, e, half);
-    Placed {
-        entries,
-        gives,
-        rules: 2,
+    let first = half_rule(CASE_RIGHT_SOURCE, s, e, 0);
+    enter_case(
+        parent,
+        rows,
+        links,
+        e,
+        [Bound::Product(e + 1, e + 2)],
+        2,
         first,
-    }
+    )
 }
 
-// Its rules: source s = B × C, D = target s.
-pub(super) fn assertr_rule(s: Arrow, e: u16, i: u16) -> Rule
+// The rules of either half: source s = A × C or B × C, whose rule has this number, and D = target s.
+pub(super) fn half_rule(number: u16, s: Arrow, e: u16, i: u16) -> Rule
     requires { (e + 8 < 2 ^ 16) × (i < 2) }
-    ensures { meant_rule result ≡ get_or (unary AssertR s e).needs i (says 0 0 0) }
+    ensures { meant_rule result ≡ get_or (says number s.source (e + 6) ∷ says 0 (e + 3) s.target ∷ []) i (says 0 0 0) }
 {
     if i == 0 {
-        says(CASE_RIGHT_SOURCE, s.source, e + 6)
+        says(number, s.source, e + 6)
     } else {
         says(D_IS_TARGET, e + 3, s.target)
     }
@@ -344,7 +308,7 @@ pub(super) fn pair(
         other: t.source,
     };
     let b = Bound::Product(s.target, t.target);
-    let entries = add_one(parent, rows, links, e, b);
+    let entries = add(parent, rows, links, e, [b]);
     let rules = unmet(parent, first);
     Placed {
         entries,
@@ -376,8 +340,8 @@ pub(super) fn disconnect(
     let a = Bound::Product(POWER_256, e);
     let b = Bound::Product(e + 1, t.source);
     let c = Bound::Product(e + 1, t.target);
-    let two = add_two(parent, rows, links, e, Bound::Free, Bound::Free);
-    let entries = add_three(parent, rows, links, two, a, b, c);
+    let bounds = [Bound::Free, Bound::Free, a, b, c];
+    let entries = add(parent, rows, links, e, bounds);
     Placed {
         entries,
         gives,
@@ -419,9 +383,8 @@ pub(super) fn disconnect_hole(
     let a = Bound::Product(POWER_256, e);
     let b = Bound::Product(e + 1, e + 2);
     let c = Bound::Product(e + 1, e + 3);
-    let two = add_two(parent, rows, links, e, Bound::Free, Bound::Free);
-    let four = add_two(parent, rows, links, two, Bound::Free, Bound::Free);
-    let entries = add_three(parent, rows, links, four, a, b, c);
+    let free = Bound::Free;
+    let entries = add(parent, rows, links, e, [free, free, free, free, a, b, c]);
     Placed {
         entries,
         gives,
@@ -437,7 +400,7 @@ pub(super) fn witness(parent: &mut [u16], rows: &mut [u16], links: u16, e: u16) 
         let is = part parent.new rows.new result.entries links in
         Enters was (leaf Witness e) result is }
 {
-    enter_two(parent, rows, links, e, Bound::Free, Bound::Free, e, e + 1)
+    enter_without_rules(parent, rows, links, e, [Bound::Free, Bound::Free], e, e + 1)
 }
 
 // 1 → 2^(2^n). It adds no entry.

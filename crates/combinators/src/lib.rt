@@ -1,6 +1,6 @@
 // What a node adds to the class table: one row of document 01's table for each combinator, after the Rust's arrow.rs.
 //
-// entries: entries added a few at a time. each: one function for each combinator.
+// entries: entries added, some at a time. each: one function for each combinator.
 
 #![tactic(auto)]
 
@@ -18,7 +18,7 @@ use nodes::arrow::{Adds, Arrow, Rule};
 
 // What a node's entries leave: how many entries there are then, the node's arrow, how many rules are still to be joined, and the
 // first of them.
-#[derive(Clone, Copy)]
+#[derive(Clone, Copy, Debug, PartialEq, Eq)]
 pub struct Placed {
     pub entries: u16,
     pub gives: Arrow,
@@ -134,8 +134,8 @@ pub fn rule_at(row: Adds, i: u16) -> Rule
     let e = row.e;
     match kind {
         Kind::Case => each::case_rule(s, t, e, i),
-        Kind::AssertL => each::assertl_rule(s, e, i),
-        Kind::AssertR => each::assertr_rule(s, e, i),
+        Kind::AssertL => each::half_rule(each::CASE_LEFT_SOURCE, s, e, i),
+        Kind::AssertR => each::half_rule(each::CASE_RIGHT_SOURCE, s, e, i),
         Kind::Disconnect => each::disconnect_rule(s, e + 2, e + 3, i),
         _ => each::disconnect_rule(s, e + 4, e + 5, i),
     }

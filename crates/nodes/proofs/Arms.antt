@@ -1,11 +1,9 @@
--- What the last arm of a `match` on a number is left with, where the arms above it take numbers in a row; and places in short lists.
+-- What the last arm of a `match` on a number is left with, where the arms above it take numbers in a row; and of two places the second.
 use mathlib.Core.Path.{◌≡◌, refl}
-use mathlib.Core.List.{[], ◌∷◌}
 use mathlib.Core.Logic.{by_cases}
 use Prim.Native.Nat.{ℕ, suc, ◌+◌, ◌≤◌, ◌<◌, zero-le, suc-le-suc}
 use native.Mathlib.Decide.{dec_le}
 use native.Mathlib.Omega.{arith}
-use lib.ListN.{get_or}
 
 -- n is none of the k numbers from `first` on, as a last arm has it
 abbrev pub NoneOf : ℕ → ℕ → ℕ → Type 0
@@ -25,10 +23,6 @@ left_zero k (ℕ.suc n) none to = absurd (not_among 1 k (suc n) none (suc-le-suc
 pub left_last : (k n : ℕ) → NoneOf 0 k n → n < k + 1 → n ≡ k
 left_last k n none to = by_cases (dec_le k n) (λ h. omega (arith, h)) (λ h. absurd (not_among 0 k n none zero-le (omega (arith, h))))
 
--- the place in a list of one, and the second in one of two
-pub only : {A : Type 0} (x d : A) (i : ℕ) → i < 1 → x ≡ get_or (x ∷ []) i d
-only x d ℕ.zero h = refl
-only x d (ℕ.suc i) h = absurd (omega (arith, h))
-
+-- of two places the second
 pub second : (i : ℕ) → (i ≡ 0 → ⊥) → i < 2 → i ≡ 1
 second i not h = omega (arith, h, not)

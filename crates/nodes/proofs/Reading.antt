@@ -1,38 +1,53 @@
--- Two bytes at a place, and a record by what its bytes are.
-use mathlib.Core.Path.{◌≡◌, sym, ap, ◌∙◌}
-use mathlib.Core.Logic.{if_pos, if_neg}
+-- A record that offers: its kind, and its node.
+use mathlib.Core.Path.{◌≡◌, refl, ap, ◌∙◌}
+use mathlib.Core.Logic.{⊎_elim}
 use mathlib.Core.List.{List}
-use Prim.Native.Nat.{ℕ, ◌+◌, ◌*◌}
-use native.Mathlib.Nat.{add_assoc}
-use native.Mathlib.Decide.{ℕ_discrete}
+use Prim.Native.Nat.{ℕ, ◌+◌, ◌<◌}
+use native.Mathlib.Omega.{arith}
 use lib.ListN.{get_or}
-use Rattle.nodes.specs.Records.{by_kind, two_bytes, record_at}
-use Rattle.nodes.specs.Coded.{kind_named, node_of, Regular, asks}
+use Rattle.nodes.specs.Records.{two_bytes, record_at}
+use Rattle.std.specs.Prelude.{Result, Ok, Err, IsOk}
+use Rattle.nodes.specs.Coded.{kinds, KindRead, kind_named, kind_number, named, node_of, Regular, asks}
+use Rattle.nodes.specs.declared.Kind.TheVariants.{Iden as iden, Unit as unit, InjL as injl, InjR as injr, Take as take, Drop as drop, Comp as comp, Case as case, AssertL as assertl, AssertR as assertr, Pair as pair, Disconnect as disconnect, DisconnectHole as disconnect_hole, Witness as witness, Fail as fail, Word as word}
 use Rattle.nodes.specs.declared.Kind.{Kind}
 use Rattle.nodes.specs.declared.Coded.{Coded}
 use Rattle.nodes.specs.declared.Record.TheVariants.{Offer}
-use Rattle.nodes.specs.declared.Asks.{Asks}
-use Rattle.nodes.specs.declared.Asks.TheVariants.{Offer as offer, Malformed}
-use Rattle.nodes.proofs.Asked.{asked, asked_offer}
+use Rattle.nodes.specs.declared.Asks.TheVariants.{Offer as offer}
+use Rattle.nodes.specs.declared.UnknownKind.{UnknownKind}
+use Rattle.nodes.proofs.Asked.{asked, asked_offer, kind_offered}
+
+-- the kind read from its number is there, and is the one named
+kind_there : (number : ℕ) (r : Result Kind UnknownKind) → KindRead number r → (number ≡ 0 → ⊥) × (number < 17) → IsOk r
+kind_there number (Ok kind) is between = refl
+kind_there number (Err e) (same, out) (some, few) = absurd (⊎_elim some (λ many. omega (arith, many, few)) out)
+
+kind_again : (kind : Kind) → kind ≡ kind_named (kind_number (named kind 0 0))
+unfolding kinds
+kind_again iden = refl
+kind_again unit = refl
+kind_again injl = refl
+kind_again injr = refl
+kind_again take = refl
+kind_again drop = refl
+kind_again comp = refl
+kind_again case = refl
+kind_again assertl = refl
+kind_again assertr = refl
+kind_again pair = refl
+kind_again disconnect = refl
+kind_again disconnect_hole = refl
+kind_again witness = refl
+kind_again fail = refl
+kind_again word = refl
+
+pub kind_is : (number : ℕ) {kind : Kind} (r : Result Kind UnknownKind) → KindRead number r → r ≡ Ok kind → kind ≡ kind_named number
+kind_is number {kind} r is ok = let this : KindRead number (Ok kind) = rw ok at is in kind_again kind ∙ ap kind_named (this 0 0)
 
 module _ (bytes : List ℕ) (at : ℕ) where
-  -- the code counts each byte from the record's start, and `two_bytes` its second from its first
-  pub both : (k : ℕ) → get_or bytes (at + k) 0 + 256 * get_or bytes (at + (k + 1)) 0 ≡ two_bytes bytes (at + k)
-  both k = ap (λ (i : ℕ). get_or bytes (at + k) 0 + 256 * get_or bytes i 0) (sym (add_assoc at k 1))
+  -- a record that offers has a kind, and is the node of its kind and fields
+  pub kind_read : (r : Result Kind UnknownKind) → KindRead (get_or bytes at 0) r → asks (record_at bytes at) ≡ offer → IsOk r
+  kind_read r is offers = kind_there _ r is (kind_offered bytes at offers)
 
-  pub zero_used : (get_or bytes (at + 1) 0 ≡ 0 → ⊥) → Malformed ≡ asks (record_at bytes at)
-  zero_used used = ap asks (sym (if_neg (ℕ_discrete _ _) used _ _))
-
-  module _ (zero : get_or bytes (at + 1) 0 ≡ 0) where
-    pub last_used : (two_bytes bytes (at + 6) ≡ 0 → ⊥) → Malformed ≡ asks (record_at bytes at)
-    last_used used = ap asks (sym (if_pos (ℕ_discrete _ _) zero _ _ ∙ if_neg (ℕ_discrete _ _) used _ _))
-
-    pub kind_decides : two_bytes bytes (at + 6) ≡ 0 → {a b : ℕ} {r : Asks} → a ≡ two_bytes bytes (at + 2) → b ≡ two_bytes bytes (at + 4) →
-        r ≡ asks (by_kind (get_or bytes at 0) a b) → r ≡ asks (record_at bytes at)
-    kind_decides last {a} {b} is_a is_b is =
-        is ∙ (λ i. asks (by_kind (get_or bytes at 0) (is_a i) (is_b i))) ∙ ap asks (sym (if_pos (ℕ_discrete _ _) zero _ _ ∙ if_pos (ℕ_discrete _ _) last _ _))
-
-  -- the node of a record that offers one
   pub offered : {kind : Kind} {a b : ℕ} → asks (record_at bytes at) ≡ offer → kind ≡ kind_named (get_or bytes at 0) → a ≡ two_bytes bytes (at + 2) → b ≡ two_bytes bytes (at + 4) →
       let c : Coded = record { kind = kind; a = a; b = b } in (record_at bytes at ≡ Offer (node_of c)) × Regular c
   offered offers is_kind is_a is_b = let (is, regular) = asked_offer (asked bytes at) offers in rw (is_kind, is_a, is_b) (is, regular)

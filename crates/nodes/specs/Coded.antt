@@ -1,9 +1,10 @@
 -- A node and a record as numbers: a kind and two fields.
-use Rattle.std.specs.Prelude.{◌≡◌, List, [], ◌∷◌, ℕ, get_or}
+use Rattle.std.specs.Prelude.{◌≡◌, List, [], ◌∷◌, ℕ, ◌<◌, ◌⊎◌, Result, MatchResult, get_or}
 use Rattle.nodes.specs.declared.Node.{Node}
 use Rattle.nodes.specs.declared.Node.TheVariants.{Iden, Unit, InjL, InjR, Take, Drop, Comp, Case, AssertL, AssertR, Pair, Disconnect, DisconnectHole, Witness, Fail, Word}
 use Rattle.nodes.specs.declared.Kind.{Kind}
 use Rattle.nodes.specs.declared.Kind.TheVariants.{Iden as iden, Unit as unit, InjL as injl, InjR as injr, Take as take, Drop as drop, Comp as comp, Case as case, AssertL as assertl, AssertR as assertr, Pair as pair, Disconnect as disconnect, DisconnectHole as disconnect_hole, Witness as witness, Fail as fail, Word as word}
+use Rattle.nodes.specs.declared.UnknownKind.{UnknownKind}
 use Rattle.nodes.specs.declared.Coded.{Coded}
 use Rattle.nodes.specs.declared.Record.{Record}
 use Rattle.nodes.specs.declared.Record.TheVariants.{Offer, TakeBack, Close, Malformed}
@@ -57,6 +58,10 @@ kind_number (DisconnectHole i) = 13
 kind_number Witness = 14
 kind_number Fail = 15
 kind_number (Word n) = 16
+
+-- the kind that has this number, or the number again if none has it
+abbrev pub KindRead : ℕ → Result Kind UnknownKind → Type 0
+KindRead number r = MatchResult r (λ kind. (a b : ℕ) → kind_number (named kind a b) ≡ number) (λ e. (e.0 ≡ number) × ((number ≡ 0) ⊎ (16 < number)))
 
 abbrev pub first_field : Node → ℕ
 first_field Iden = 0

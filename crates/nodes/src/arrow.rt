@@ -3,7 +3,7 @@
 use super::Coded;
 
 // A node's source and target, as entries.
-#[derive(Clone, Copy)]
+#[derive(Clone, Copy, Debug, PartialEq, Eq)]
 pub struct Arrow {
     pub source: u16,
     pub target: u16,
@@ -11,7 +11,7 @@ pub struct Arrow {
 
 // A rule: its number in document 01 (0 for D = target, which joins a fresh entry and cannot clash) and the two entries that it
 // says are equal.
-#[derive(Clone, Copy)]
+#[derive(Clone, Copy, Debug, PartialEq, Eq)]
 pub struct Rule {
     pub number: u16,
     pub one: u16,
@@ -19,7 +19,7 @@ pub struct Rule {
 }
 
 // A node with its children's arrows and the number of the next entry: all that what it adds depends on.
-#[derive(Clone, Copy)]
+#[derive(Clone, Copy, Debug, PartialEq, Eq)]
 pub struct Adds {
     pub node: Coded,
     pub s: Arrow,

@@ -2,9 +2,9 @@
 // and one with a field that its kind does not use is malformed unless that field is zero. What a record asks for is told apart
 // from its numbers, so that a node's numbers are read from the bytes and never taken apart again.
 
-ghost use Rattle.std.specs.Prelude.{◌≡◌, ◌+◌, ◌*◌, ◌≤◌, length};
+ghost use Rattle.std.specs.Prelude.{◌≡◌, ◌+◌, ◌≤◌, length};
 ghost use Rattle.nodes.specs.Records.{spare, no_child, word as word-record, by_kind, two_bytes, record_at};
-ghost use Rattle.nodes.specs.Coded.{asks, kind_named, node_of, Regular};
+ghost use Rattle.nodes.specs.Coded.{asks, node_of, Regular};
 ghost use Rattle.nodes.specs.declared.Node.{Node};
 ghost use Rattle.nodes.specs.declared.Record.{Record};
 ghost use Rattle.nodes.specs.declared.Record.TheVariants.{Offer};
@@ -14,12 +14,6 @@ use super::{Asks, Coded, Kind};
 
 // The largest n of a word: 2^(2^31).
 pub const LARGEST_WORD: u16 = 31;
-
-fn two_bytes(low: u8, high: u8) -> u16
-    ensures { result ≡ low + 256 * high }
-{
-    (low as u16) + 256 * (high as u16)
-}
 
 // A field that must be zero.
 fn unless(field: u16, asked: Asks) -> Asks
@@ -102,14 +96,14 @@ pub fn first(bytes: &[u8], at: usize) -> u16
     requires { at + 8 ≤ length bytes.now }
     ensures { result ≡ two_bytes bytes.now (at + 2) }
 {
-    two_bytes(bytes[at + 2], bytes[at + 3])
+    u16::from_le_bytes([bytes[at + 2], bytes[at + 3]])
 }
 
 fn second(bytes: &[u8], at: usize) -> u16
     requires { at + 8 ≤ length bytes.now }
     ensures { result ≡ two_bytes bytes.now (at + 4) }
 {
-    two_bytes(bytes[at + 4], bytes[at + 5])
+    u16::from_le_bytes([bytes[at + 4], bytes[at + 5]])
 }
 
 // What the eight bytes from `at` on ask for.
@@ -117,36 +111,10 @@ pub fn asked(bytes: &[u8], at: usize) -> Asks
     requires { at + 8 ≤ length bytes.now }
     ensures { result ≡ asks (record_at bytes.now at) }
 {
-    if bytes[at + 1] != 0 {
-        return Asks::Malformed;
-    }
-    if two_bytes(bytes[at + 6], bytes[at + 7]) != 0 {
+    if bytes[at + 1] != 0 || u16::from_le_bytes([bytes[at + 6], bytes[at + 7]]) != 0 {
         return Asks::Malformed;
     }
     by_kind(bytes[at], first(bytes, at), second(bytes, at))
-}
-
-fn kind_at(kind: u8) -> Kind
-    ensures { result ≡ kind_named kind }
-{
-    match kind {
-        1 => Kind::Iden,
-        2 => Kind::Unit,
-        3 => Kind::InjL,
-        4 => Kind::InjR,
-        5 => Kind::Take,
-        6 => Kind::Drop,
-        7 => Kind::Comp,
-        8 => Kind::Case,
-        9 => Kind::AssertL,
-        10 => Kind::AssertR,
-        11 => Kind::Pair,
-        12 => Kind::Disconnect,
-        13 => Kind::DisconnectHole,
-        14 => Kind::Witness,
-        15 => Kind::Fail,
-        _ => Kind::Word,
-    }
 }
 
 // The node of a record that offers one.
@@ -154,7 +122,7 @@ pub fn node_at(bytes: &[u8], at: usize) -> Coded
     requires { (at + 8 ≤ length bytes.now) × (asks (record_at bytes.now at) ≡ offers) }
     ensures { (record_at bytes.now at ≡ Offer (node_of result)) × Regular result }
 {
-    let kind = kind_at(bytes[at]);
+    let kind = Kind::try_from(bytes[at]).unwrap();
     let a = first(bytes, at);
     let b = second(bytes, at);
     Coded { kind, a, b }

@@ -8,7 +8,7 @@ ghost use Rattle.classes.specs.Columns.{laid, lent};
 ghost use Rattle.classes.specs.Promises.{made_links};
 ghost use Rattle.nodes.specs.Layout.{children, Proper};
 ghost use Rattle.nodes.specs.Layout.{arrow as from_to};
-ghost use Rattle.nodes.specs.Coded.{node_of, kind_number, Regular};
+ghost use Rattle.nodes.specs.Coded.{node_of, Regular};
 ghost use Rattle.nodes.specs.Kept.{node_width, row_numbers, source_at, target_at};
 ghost use Rattle.nodes.specs.Meant.{Countable, meant, meant_rule};
 ghost use Rattle.nodes.specs.declared.Record.TheVariants.{Offer};
@@ -21,9 +21,9 @@ ghost use Rattle.offers.specs.RulesMet.{RulesMet, met_links};
 
 use classes::context::Joined;
 use classes::{Mark, context, undo};
+use nodes::Coded;
 use nodes::arrow::{Adds, Arrow, Rule};
 use nodes::kept::{ENTRIES_BEFORE, FIRST, KIND, LINKS_BEFORE, NODE, SECOND, SOURCE, TARGET};
-use nodes::{Coded, Kind};
 use types::Answer;
 use types::state::{Live, Step};
 
@@ -34,62 +34,12 @@ pub enum Met {
     Clash(u16, u16),
 }
 
-// The number of a node's kind in document 01.
-fn kind_number(n: Coded) -> u16
-    ensures { result ≡ kind_number (node_of n) }
-{
-    let kind = n.kind;
-    match kind {
-        Kind::Iden => 1,
-        Kind::Unit => 2,
-        Kind::InjL => 3,
-        Kind::InjR => 4,
-        Kind::Take => 5,
-        Kind::Drop => 6,
-        Kind::Comp => 7,
-        Kind::Case => 8,
-        Kind::AssertL => 9,
-        Kind::AssertR => 10,
-        Kind::Pair => 11,
-        Kind::Disconnect => 12,
-        Kind::DisconnectHole => 13,
-        Kind::Witness => 14,
-        Kind::Fail => 15,
-        Kind::Word => 16,
-    }
-}
-
-// How many children a node has. They stand in its fields; a word's field is no child.
-fn arity(n: Coded) -> u16
-    ensures { result ≡ length (children (node_of n)) }
-{
-    let kind = n.kind;
-    match kind {
-        Kind::Iden => 0,
-        Kind::Unit => 0,
-        Kind::InjL => 1,
-        Kind::InjR => 1,
-        Kind::Take => 1,
-        Kind::Drop => 1,
-        Kind::Comp => 2,
-        Kind::Case => 2,
-        Kind::AssertL => 1,
-        Kind::AssertR => 1,
-        Kind::Pair => 2,
-        Kind::Disconnect => 2,
-        Kind::DisconnectHole => 1,
-        Kind::Witness => 0,
-        Kind::Fail => 0,
-        Kind::Word => 0,
-    }
-}
-
 // The first child, 0 where there is none. The second field is the second child, or 0.
 fn first_child(n: Coded) -> u16
     requires { Regular n }
     ensures { result ≡ get_or (children (node_of n)) 0 0 }
 {
-    if arity(n) == 0 { 0 } else { n.a }
+    if n.kind.arity() == 0 { 0 } else { n.a }
 }
 
 // Every child is below the next number. A node with one child has 0 for its second, which is below if the first is.
@@ -97,7 +47,7 @@ fn children_below(n: Coded, next: u16) -> bool
     requires { Regular n }
     ensures { (result ≡ true → Below next (node_of n)) × (result ≡ false → Below next (node_of n) → ⊥) }
 {
-    if arity(n) == 0 {
+    if n.kind.arity() == 0 {
         return true;
     }
     if next <= n.a {
@@ -123,7 +73,7 @@ fn write_row(nodes: &mut [u16], i: u16, n: Coded, gives: Arrow, before: Mark)
     ensures { nodes.new ≡ row_written nodes.old i (row_numbers (node_of n) gives before.entries before.links) }
 {
     let row = NODE * (i as usize);
-    nodes[row + KIND] = kind_number(n);
+    nodes[row + KIND] = u16::from(n.kind);
     nodes[row + FIRST] = n.a;
     nodes[row + SECOND] = n.b;
     nodes[row + SOURCE] = gives.source;

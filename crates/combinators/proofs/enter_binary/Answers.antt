@@ -23,15 +23,3 @@ pair-requires c = rw c.in-Pair.is at c.requires.ready
 
 pub disconnect-requires : goal.disconnect-requires
 disconnect-requires c = subst (Ready _ _) (last_row (goal.at.disconnect-requires c).In_default) c.requires.ready
-
-pub returns-in-Comp : goal.returns-in-Comp
-returns-in-Comp c = rw c.in-Comp.is c.comp.ensures
-
-pub returns-in-Case : goal.returns-in-Case
-returns-in-Case c = rw c.in-Case.is c.case.ensures
-
-pub returns-in-Pair : goal.returns-in-Pair
-returns-in-Pair c = rw c.in-Pair.is c.pair.ensures
-
-pub returns-in_default : goal.returns-in_default
-returns-in_default c = rw (last_row (goal.at.returns-in_default c).In_default) c.disconnect.ensures

@@ -19,20 +19,5 @@ iden-requires c = rw c.in-Iden.is at c.requires.ready.0
 pub unit-requires : goal.unit-requires
 unit-requires c = rw c.in-Unit.is at c.requires.ready.0
 
-pub word-requires : goal.word-requires
-word-requires c = rw c.in-Word.is at c.requires.ready.1
-
 pub witness-requires : goal.witness-requires
 witness-requires c = subst (Ready _ _) (last_row (goal.at.witness-requires c).In_default) c.requires.ready.0
-
-pub returns-in-Iden : goal.returns-in-Iden
-returns-in-Iden c = rw c.in-Iden.is c.iden.ensures
-
-pub returns-in-Unit : goal.returns-in-Unit
-returns-in-Unit c = rw c.in-Unit.is c.unit.ensures
-
-pub returns-in-Word : goal.returns-in-Word
-returns-in-Word c = rw c.in-Word.is c.word.ensures
-
-pub returns-in_default : goal.returns-in_default
-returns-in_default c = rw (last_row (goal.at.returns-in_default c).In_default) c.witness.ensures

@@ -33,24 +33,3 @@ assertr-requires c = rw c.in-AssertR.is at c.requires.ready
 
 pub disconnect_hole-requires : goal.disconnect_hole-requires
 disconnect_hole-requires c = subst (Ready _ _) (last_row (goal.at.disconnect_hole-requires c).In_default) c.requires.ready
-
-pub returns-in-InjL : goal.returns-in-InjL
-returns-in-InjL c = rw c.in-InjL.is c.injl.ensures
-
-pub returns-in-InjR : goal.returns-in-InjR
-returns-in-InjR c = rw c.in-InjR.is c.injr.ensures
-
-pub returns-in-Take : goal.returns-in-Take
-returns-in-Take c = rw c.in-Take.is c.take.ensures
-
-pub returns-in-Drop : goal.returns-in-Drop
-returns-in-Drop c = rw c.in-Drop.is c.drop.ensures
-
-pub returns-in-AssertL : goal.returns-in-AssertL
-returns-in-AssertL c = rw c.in-AssertL.is c.assertl.ensures
-
-pub returns-in-AssertR : goal.returns-in-AssertR
-returns-in-AssertR c = rw c.in-AssertR.is c.assertr.ensures
-
-pub returns-in_default : goal.returns-in_default
-returns-in_default c = rw (last_row (goal.at.returns-in_default c).In_default) c.disconnect_hole.ensures

@@ -20,13 +20,13 @@ no h = (λ e. let z : ◌≡◌ {A = ℕ} 0 1 = cc in absurd (omega arith), λ e
 
 -- what the two tests leave: there is a child, and the first is below
 some : (c : Else-arity-eq0) → length (children (node_of c.args.n)) ≡ 0 → ⊥
-some c none = c.if-arity-eq0.false (c.arity.ensures ∙ none)
+some c none = c.if-arity-eq0.false (c.arity.ensures _ _ ∙ none)
 
 first_there : (c : Else-next-n) → first_field (node_of c.args.n) < c.args.next
 first_there c = rw (← c.requires.first) c.if-next-n.false
 
 pub returns-then-arity-eq0 : goal.returns-then-arity-eq0
-returns-then-arity-eq0 c = yes (none_below (node_of c.args.n) _ (sym c.arity.ensures ∙ c.if-arity-eq0.true))
+returns-then-arity-eq0 c = yes (none_below (node_of c.args.n) _ (sym (c.arity.ensures _ _) ∙ c.if-arity-eq0.true))
 
 pub returns-then-next-n : goal.returns-then-next-n
 returns-then-next-n c =

@@ -25,4 +25,4 @@ bounds-nodes-row-7 c = simp length-set (omega arith)
 
 pub returns : goal.returns
 returns c =
-    row_stored c.args.nodes.now c.args.i (node_of c.args.n) c.args.gives c.args.before.entries c.args.before.links c.requires.0 c.kind_number.ensures c.requires.1.first c.requires.1.second
+    row_stored c.args.nodes.now c.args.i (node_of c.args.n) c.args.gives c.args.before.entries c.args.before.links c.requires.0 (c.from.ensures _ _) c.requires.1.first c.requires.1.second
