@@ -3,7 +3,6 @@
 
 ghost use Rattle.combinators.specs.Entering.{part, Room, Grown};
 
-use classes::context::Added;
 use classes::{Bound, Mark, context};
 
 // Adds an entry for each of the bounds, in order.
@@ -21,7 +20,7 @@ pub(super) fn add<const N: usize>(
 {
     let mut entries = e;
     for b in bounds {
-        let Added::Entry(_) = context::add(parent, rows, Mark { entries, links }, b) else {
+        let Some(_) = context::add(parent, rows, Mark { entries, links }, b) else {
             return entries;
         };
         entries += 1;
