@@ -12,14 +12,9 @@ ghost use Rattle.closing.specs.Visiting.{Settled, VisitedBy};
 ghost use Rattle.closing.specs.Writing.{ArrowBy, Closable, AllBy, type_number, Numberable, ArrowsWritten, ListingWritten};
 
 use super::walk::{Cycle, NUMBERED};
-use super::{Endless, WORK, walk};
-use classes::union_bound;
+use super::{Endless, TRIPLE, TYPES, WORK, walk};
+use classes::union_bound::root;
 use nodes::kept::{NODE, SOURCE, TARGET};
-
-// Where the types begin, and the numbers of each.
-const TYPES: u16 = 4;
-
-const TRIPLE: u16 = 3;
 
 // Visits an entry whose class may have its number already.
 fn visit_unless_numbered(
@@ -115,7 +110,7 @@ fn type_number(parent: &[u16], work: &[u16], a: u16) -> u16
     requires { Numberable parent.now work.now a }
     ensures { result ≡ type_number parent.now work.now a }
 {
-    let class = union_bound::root(parent, a);
+    let class = root(parent, a);
     work[WORK * (class as usize)] - NUMBERED
 }
 
@@ -146,10 +141,10 @@ fn write(parent: &[u16], nodes: &[u16], work: &[u16], listing: &mut [u16], count
     requires kept_in_bounds { (7 * kept ≤ length nodes.now) × (4 + 3 * count + 2 * kept ≤ length listing.old) × (4 + 3 * count < 2 ^ 16) }
     ensures { ListingWritten parent.now nodes.now work.now listing.old count kept listing.new }
 {
-    let at = TYPES + TRIPLE * count;
+    let at = (TYPES as u16) + (TRIPLE as u16) * count;
     listing[0] = kept;
     listing[1] = count;
-    listing[2] = TYPES;
+    listing[2] = TYPES as u16;
     listing[3] = at;
     write_arrows(parent, nodes, work, listing, at, kept);
 }

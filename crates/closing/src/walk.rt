@@ -10,8 +10,10 @@ ghost use Rattle.typing.specs.Types.{Ty};
 ghost use Rattle.closing.specs.Visiting.{Settled, VisitedBy};
 ghost use Rattle.closing.specs.Walking.{mark_at, top_of, opened, goes, seen_in, PartsBelow, Seeable, Steppable, Completed, Parted, Stepped};
 
+use super::numbering::{PRODUCT, Row, SUM, UNIT};
 use super::{WORK, numbering};
-use classes::{Bound, context, union_bound};
+use classes::union_bound::root;
+use classes::{Bound, context};
 
 // Where the path stands among an entry's numbers of working memory; the mark comes first.
 const PATH: usize = 1;
@@ -42,12 +44,8 @@ fn look(parent: &[u16], rows: &[u16], r: u16) -> Bound
     match context::shown(rows, r) {
         Bound::Free => Bound::Free,
         Bound::Unit => Bound::Unit,
-        Bound::Sum(a, b) => {
-            Bound::Sum(union_bound::root(parent, a), union_bound::root(parent, b))
-        }
-        Bound::Product(a, b) => {
-            Bound::Product(union_bound::root(parent, a), union_bound::root(parent, b))
-        }
+        Bound::Sum(a, b) => Bound::Sum(root(parent, a), root(parent, b)),
+        Bound::Product(a, b) => Bound::Product(root(parent, a), root(parent, b)),
     }
 }
 
@@ -71,15 +69,13 @@ fn complete(
     entries: u16,
     at: Goes,
     top: u16,
-    k: u16,
-    l: u16,
-    r: u16,
+    ty: Row,
 ) -> Goes
     requires steppable { Steppable entries work.old listing.old at.depth at.types }
     requires top_lt_entries { top < entries }
-    ensures { Completed entries work.old listing.old at.depth at.types top k l r (Ok result) work.new listing.new }
+    ensures { Completed entries work.old listing.old at.depth at.types top ty.kind ty.left ty.right (Ok result) work.new listing.new }
 {
-    let t = numbering::number(work, listing, entries, at.types, k, l, r);
+    let t = numbering::number(work, listing, entries, at.types, ty);
     work[WORK * (top as usize)] = t + NUMBERED;
     Goes {
         depth: at.depth - 1,
@@ -98,38 +94,32 @@ fn part(
     entries: u16,
     at: Goes,
     top: u16,
-    k: u16,
-    l: u16,
-    r: u16,
+    ty: Row,
 ) -> Result<Goes, Cycle>
     requires steppable { Steppable entries work.old listing.old at.depth at.types }
-    requires top_lt_entries { (top < entries) × (l < entries) × (r < entries) }
-    ensures { Parted entries work.old listing.old at.depth at.types top k l r result work.new listing.new }
+    requires top_lt_entries { (top < entries) × (ty.left < entries) × (ty.right < entries) }
+    ensures { Parted entries work.old listing.old at.depth at.types top ty.kind ty.left ty.right result work.new listing.new }
 {
-    let one = work[WORK * (l as usize)];
+    let one = work[WORK * (ty.left as usize)];
     if one == UNSEEN {
-        return Ok(open(work, at, l));
+        return Ok(open(work, at, ty.left));
     }
     if one == OPEN {
         return Err(Cycle);
     }
-    let other = work[WORK * (r as usize)];
+    let other = work[WORK * (ty.right as usize)];
     if other == UNSEEN {
-        return Ok(open(work, at, r));
+        return Ok(open(work, at, ty.right));
     }
     if other == OPEN {
         return Err(Cycle);
     }
-    Ok(complete(
-        work,
-        listing,
-        entries,
-        at,
-        top,
-        k,
-        one - NUMBERED,
-        other - NUMBERED,
-    ))
+    let numbers = Row {
+        kind: ty.kind,
+        left: one - NUMBERED,
+        right: other - NUMBERED,
+    };
+    Ok(complete(work, listing, entries, at, top, numbers))
 }
 
 // One step: looks at the class at the top of the path.
@@ -150,10 +140,24 @@ fn step(
 {
     let top = work[WORK * ((at.depth - 1) as usize) + PATH];
     match look(parent, rows, top) {
-        Bound::Free => Ok(complete(work, listing, entries, at, top, 0, 0, 0)),
-        Bound::Unit => Ok(complete(work, listing, entries, at, top, 0, 0, 0)),
-        Bound::Sum(l, r) => part(work, listing, entries, at, top, 1, l, r),
-        Bound::Product(l, r) => part(work, listing, entries, at, top, 2, l, r),
+        Bound::Free => Ok(complete(work, listing, entries, at, top, UNIT)),
+        Bound::Unit => Ok(complete(work, listing, entries, at, top, UNIT)),
+        Bound::Sum(left, right) => {
+            let shown = Row {
+                kind: SUM,
+                left,
+                right,
+            };
+            part(work, listing, entries, at, top, shown)
+        }
+        Bound::Product(left, right) => {
+            let shown = Row {
+                kind: PRODUCT,
+                left,
+                right,
+            };
+            part(work, listing, entries, at, top, shown)
+        }
     }
 }
 
@@ -183,7 +187,7 @@ pub(super) fn visit(
         depth: 0,
         types: count,
     };
-    let mut at = open(work, start, union_bound::root(parent, a));
+    let mut at = open(work, start, root(parent, a));
     while 0 < at.depth {
         at = step(parent, rows, work, listing, entries, at)?;
     }
@@ -195,5 +199,5 @@ pub(super) fn is_numbered(parent: &[u16], work: &[u16], a: u16) -> bool
     requires { Rooted parent.now a × (4 * root_in parent.now a < length work.now) }
     ensures { (result ≡ true → mark_at work.now (root_in parent.now a) ≡ 0 → ⊥) × (result ≡ false → mark_at work.now (root_in parent.now a) ≡ 0) }
 {
-    work[WORK * (union_bound::root(parent, a) as usize)] != UNSEEN
+    work[WORK * (root(parent, a) as usize)] != UNSEEN
 }

@@ -1,5 +1,5 @@
 -- `closing::numbering::find` meets its contract. The invariant: what has been passed is not the type, what is left is in its chain.
-use Rattle.closing.proofs.Chains.{searching_begins, searching_on, here_there, next_lower, found_here, found_nowhere}
+use Rattle.closing.proofs.Chains.{searching_begins, searching_on, here_there, next_lower, found_nowhere}
 use Rattle.closing.specs.Numbering.{Chained}
 use mathlib.Core.Path.{refl}
 use Prim.Native.Nat.{◌^◌, ◌<◌}
@@ -20,7 +20,7 @@ pub is_row-requires : goal.is_row-requires
 is_row-requires c = omega (arith, here_there (chains (goal.at.is_row-requires c).At-loop-at) c.loop-at.invariant c.loop-at-test.true, (chains (goal.at.is_row-requires c).At-loop-at).few, (chains (goal.at.is_row-requires c).At-loop-at).listing_room)
 
 pub returns-then-is_row : goal.returns-then-is_row
-returns-then-is_row c = found_here (chains (goal.at.returns-then-is_row c).At-loop-at) c.loop-at.invariant c.loop-at-test.true (c.is_row.ensures.0 c.if-is_row.true)
+returns-then-is_row c = (here_there (chains (goal.at.returns-then-is_row c).At-loop-at) c.loop-at.invariant c.loop-at-test.true, c.is_row.ensures.0 c.if-is_row.true)
 
 pub overflow_mul-at : goal.overflow_mul-at
 overflow_mul-at c = record { fits = omega (arith, low (goal.at.overflow_mul-at c).At-loop-at) }
