@@ -12,17 +12,11 @@ use Rattle.closing.specs.Walking.Parted.{left_opened, left_open, right_opened, r
 use borrow.Author.Rules.{rules}
 use Rattle.closing.proofs.walk.part.Goals as goal
 
-pub open-requires : goal.open-requires
-open-requires c = let room = c.requires.steppable.room _ c.requires.top_lt_entries.1 c.if-one-eq-UNSEEN.true in (omega (arith, room, c.requires.steppable.chains.work_room), omega (arith, c.requires.top_lt_entries.1, c.requires.steppable.chains.work_room), omega (arith, room, c.requires.steppable.chains.small))
-
 pub returns-then-one-eq-UNSEEN : goal.returns-then-one-eq-UNSEEN
 returns-then-one-eq-UNSEEN c = subst₂ (λ (x : Goes) (w : List ℕ). Parted c.args.entries c.args.work.now c.args.listing.now c.args.at.depth c.args.at.types c.args.top c.args.ty.kind c.args.ty.left c.args.ty.right (Ok x) w c.args.listing.now) (sym c.open.ensures.1) (sym c.open.ensures.0) (left_opened c.if-one-eq-UNSEEN.true)
 
 pub returns-then-one-eq-OPEN : goal.returns-then-one-eq-OPEN
 returns-then-one-eq-OPEN c = left_open c.if-one-eq-OPEN.true
-
-pub open-requires-then-other-eq-UNSEEN : goal.open-requires-then-other-eq-UNSEEN
-open-requires-then-other-eq-UNSEEN c = let room = c.requires.steppable.room _ c.requires.top_lt_entries.2 c.if-other-eq-UNSEEN.true in (omega (arith, room, c.requires.steppable.chains.work_room), omega (arith, c.requires.top_lt_entries.2, c.requires.steppable.chains.work_room), omega (arith, room, c.requires.steppable.chains.small))
 
 pub returns-then-other-eq-UNSEEN : goal.returns-then-other-eq-UNSEEN
 returns-then-other-eq-UNSEEN c = subst₂ (λ (x : Goes) (w : List ℕ). Parted c.args.entries c.args.work.now c.args.listing.now c.args.at.depth c.args.at.types c.args.top c.args.ty.kind c.args.ty.left c.args.ty.right (Ok x) w c.args.listing.now) (sym c.open-then-other-eq-UNSEEN.ensures.1) (sym c.open-then-other-eq-UNSEEN.ensures.0) (right_opened (numbered_mark c.if-one-eq-UNSEEN.false (search rules)) c.if-other-eq-UNSEEN.true)

@@ -26,12 +26,6 @@ module _ (c : After-look) where
   parts_below : {b : Bound} → c.look.result ≡ b → PartsBelow c.args.entries b
   parts_below e = subst (PartsBelow c.args.entries) (sym c.look.ensures ∙ e) (c).requires.fact.1
 
-pub part-requires : goal.part-requires
-part-requires c = let below = parts_below (goal.at.part-requires c).After-look c.in-Sum.is in record { steppable = c.requires.steppable; top_lt_entries = (c.requires.steppable.top, below.0, below.1) }
-
-pub part-requires-in-Product : goal.part-requires-in-Product
-part-requires-in-Product c = let below = parts_below (goal.at.part-requires-in-Product c).After-look c.in-Product.is in record { steppable = c.requires.steppable; top_lt_entries = (c.requires.steppable.top, below.0, below.1) }
-
 pub returns-in-Free : goal.returns-in-Free
 returns-in-Free c = stepped (goal.at.returns-in-Free c).After-look _ _ _ c.in-Free.is c.complete.ensures
 
