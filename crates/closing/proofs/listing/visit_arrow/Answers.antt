@@ -1,6 +1,4 @@
 -- `closing::listing::visit_arrow` meets its contract.
-use mathlib.Core.Logic.{inl}
-use Rattle.std.proofs.lemmas.Result.{err_from_is_err_and}
 use Rattle.closing.proofs.Visits.{mark_there, visited_again}
 use Rattle.closing.proofs.Arrows.{arrow_visited}
 use Rattle.closing.proofs.listing.visit_arrow.Goals as goal

@@ -1,8 +1,5 @@
 -- `closing::numbering::number` meets its contract.
-use mathlib.Core.Path.{ap}
-use native.Mathlib.Omega.{arith}
-use lib.ListN.{length-set}
-use Rattle.closing.specs.Numbering.{head_at, Numbered}
+use Rattle.closing.specs.Numbering.{Numbered}
 use Rattle.closing.proofs.Chains.{numbered_new}
 use Rattle.closing.proofs.numbering.number.Goals as goal
 

@@ -1,6 +1,5 @@
 -- `closing::walk::part` meets its contract. That the left part is not open, past its test, is left to the search, so that another test
 -- is refused for what is then not known, and not for a name.
-use native.Mathlib.Omega.{arith}
 use mathlib.Core.Path.{sym, subst₂}
 use mathlib.Core.List.{List}
 use Prim.Native.Nat.{ℕ}
