@@ -16,7 +16,7 @@ use Rattle.typing.specs.Endless.{Endless}
 use Rattle.typing.specs.Listing.{TypeArrow, types_of, listing}
 use Rattle.nodes.specs.Kept.{source_at, target_at}
 use Rattle.closing.specs.Closings.{from_to, Typed, ClosedBy}
-use Rattle.closing.specs.declared.Found.TheVariants.{Types, Endless as NoTypes}
+use Rattle.std.specs.Prelude.{Ok, Err}
 use Rattle.nodes.specs.Layout.{rules_of}
 use Rattle.nodes.specs.declared.Node.{Node}
 use Rattle.nodes.specs.declared.Record.TheVariants.{Close}
@@ -141,11 +141,11 @@ module _ {rows : ℕ} {k : Held} (g : Good rows k) where
 
   shown : (f : Found) → Finds k.classes (rules_of k.program.rules) k.numbers (length k.nodes) f → Shows (shows k f)
   shown (Found.types arrows) t =
-      let found : ClosedBy (bounds k.classes) (rules_of k.program.rules) k.numbers (length k.nodes) [] (Types (length (types_of [] arrows))) (listing arrows ++ drop (length (listing arrows)) []) = ClosedBy.types t in
+      let found : ClosedBy (bounds k.classes) (rules_of k.program.rules) k.numbers (length k.nodes) [] (Ok (length (types_of [] arrows))) (listing arrows ++ drop (length (listing arrows)) []) = ClosedBy.types t in
       let (l, lists, is) = closing_shown as_state found in
       (closes_anyway (closing_answered as_state found), subst (Lists k.nodes Close) (sym (over_nothing l) ∙ sym is ∙ over_nothing (listing arrows)) lists)
   shown (Found.endless i) e =
-      let found : ClosedBy (bounds k.classes) (rules_of k.program.rules) k.numbers (length k.nodes) [] (NoTypes i) [] = ClosedBy.endless e.0 e.1.1 e.2 in
+      let found : ClosedBy (bounds k.classes) (rules_of k.program.rules) k.numbers (length k.nodes) [] (Err (record { node = i })) [] = ClosedBy.endless e.0 e.1.1 e.2 in
       (closes_anyway (closing_answered as_state found), closing_shown as_state found)
 
   pub close_answers : (fuel : ℕ) → Whatever Shows (close fuel k)

@@ -9,29 +9,12 @@ ghost use Rattle.typing.specs.Types.{Ty};
 ghost use Rattle.nodes.specs.Kept.{source_at, target_at};
 ghost use Rattle.closing.specs.Closings.{ClosedBy};
 ghost use Rattle.closing.specs.Visiting.{Settled, VisitedBy};
-ghost use Rattle.closing.specs.Writing.{cleared, ArrowBy, Closable, AllBy, type_number, Numberable, ArrowsWritten, ListingWritten};
+ghost use Rattle.closing.specs.Writing.{ArrowBy, Closable, AllBy, type_number, Numberable, ArrowsWritten, ListingWritten};
 
-use super::walk::{NUMBERED, Visited};
-use super::{Found, WORK, walk};
-use classes::union_bound;
+use super::walk::{Cycle, NUMBERED};
+use super::{Endless, TRIPLE, TYPES, WORK, walk};
+use classes::union_bound::root;
 use nodes::kept::{NODE, SOURCE, TARGET};
-
-// Where the types begin, and the numbers of each.
-const TYPES: u16 = 4;
-
-const TRIPLE: u16 = 3;
-
-fn clear(work: &mut [u16], entries: u16)
-    requires { 4 * entries ≤ length work.old }
-    ensures { work.new ≡ cleared work.old entries }
-{
-    let end = WORK * (entries as usize);
-    let mut i: usize = 0;
-    while i < end {
-        work[i] = 0;
-        i += 1;
-    }
-}
 
 // Visits an entry whose class may have its number already.
 fn visit_unless_numbered(
@@ -42,7 +25,7 @@ fn visit_unless_numbered(
     entries: u16,
     count: u16,
     a: u16,
-) -> Visited
+) -> Result<u16, Cycle>
     requires by_index { (rank trail : List ℕ) × (links : ℕ) × (rules : List Rule) × (ts : List Ty)
         × Stands (laid parent.now rank rows.now trail entries links) rules
         × Settled (laid parent.now rank rows.now trail entries links) rules work.old listing.old count ts }
@@ -54,7 +37,7 @@ fn visit_unless_numbered(
         → VisitedBy t rules work.old listing.old count ts a result work.new listing.new }
 {
     if walk::is_numbered(parent, work, a) {
-        return Visited::Done(count);
+        return Ok(count);
     }
     walk::visit(parent, rows, work, listing, entries, count, a)
 }
@@ -70,7 +53,7 @@ fn visit_arrow(
     count: u16,
     source: u16,
     target: u16,
-) -> Visited
+) -> Result<u16, Cycle>
     requires by_index { (rank trail : List ℕ) × (links : ℕ) × (rules : List Rule) × (ts : List Ty)
         × Stands (laid parent.now rank rows.now trail entries links) rules
         × Settled (laid parent.now rank rows.now trail entries links) rules work.old listing.old count ts }
@@ -84,10 +67,7 @@ fn visit_arrow(
     if walk::is_numbered(parent, work, source) {
         return visit_unless_numbered(parent, rows, work, listing, entries, count, target);
     }
-    let Visited::Done(types) = walk::visit(parent, rows, work, listing, entries, count, source)
-    else {
-        return Visited::Cycle;
-    };
+    let types = walk::visit(parent, rows, work, listing, entries, count, source)?;
     visit_unless_numbered(parent, rows, work, listing, entries, types, target)
 }
 
@@ -100,7 +80,7 @@ fn visit_all(
     listing: &mut [u16],
     entries: u16,
     kept: u16,
-) -> Found
+) -> Result<u16, Endless>
     requires by_index { (rank trail : List ℕ) × (links : ℕ) × (rules : List Rule)
         × Stands (laid parent.now rank rows.now trail entries links) rules
         × Settled (laid parent.now rank rows.now trail entries links) rules work.old listing.old 0 [] }
@@ -111,26 +91,18 @@ fn visit_all(
         → Settled t rules work.old listing.old 0 []
         → AllBy t rules nodes.now listing.old kept result work.new listing.new }
 {
-    let mut i: u16 = 0;
     let mut count: u16 = 0;
-    while i < kept {
+    for i in 0..kept {
         let row = NODE * (i as usize);
-        let Visited::Done(types) = visit_arrow(
-            parent,
-            rows,
-            work,
-            listing,
-            entries,
-            count,
-            nodes[row + SOURCE],
-            nodes[row + TARGET],
-        ) else {
-            return Found::Endless(i);
+        let source = nodes[row + SOURCE];
+        let target = nodes[row + TARGET];
+        let Ok(types) = visit_arrow(parent, rows, work, listing, entries, count, source, target)
+        else {
+            return Err(Endless { node: i });
         };
         count = types;
-        i += 1;
     }
-    Found::Types(count)
+    Ok(count)
 }
 
 // The number of the type of a.
@@ -138,7 +110,7 @@ fn type_number(parent: &[u16], work: &[u16], a: u16) -> u16
     requires { Numberable parent.now work.now a }
     ensures { result ≡ type_number parent.now work.now a }
 {
-    let class = union_bound::root(parent, a);
+    let class = root(parent, a);
     work[WORK * (class as usize)] - NUMBERED
 }
 
@@ -155,13 +127,11 @@ fn write_arrows(
     requires kept_in_bounds { (7 * kept ≤ length nodes.now) × (at + 2 * kept ≤ length listing.old) }
     ensures { ArrowsWritten parent.now nodes.now work.now listing.old at kept listing.new }
 {
-    let mut i: u16 = 0;
-    while i < kept {
+    for i in 0..kept {
         let row = NODE * (i as usize);
         let to = (at as usize) + 2 * (i as usize);
         listing[to] = type_number(parent, work, nodes[row + SOURCE]);
         listing[to + 1] = type_number(parent, work, nodes[row + TARGET]);
-        i += 1;
     }
 }
 
@@ -171,10 +141,10 @@ fn write(parent: &[u16], nodes: &[u16], work: &[u16], listing: &mut [u16], count
     requires kept_in_bounds { (7 * kept ≤ length nodes.now) × (4 + 3 * count + 2 * kept ≤ length listing.old) × (4 + 3 * count < 2 ^ 16) }
     ensures { ListingWritten parent.now nodes.now work.now listing.old count kept listing.new }
 {
-    let at = TYPES + TRIPLE * count;
+    let at = (TYPES as u16) + (TRIPLE as u16) * count;
     listing[0] = kept;
     listing[1] = count;
-    listing[2] = TYPES;
+    listing[2] = TYPES as u16;
     listing[3] = at;
     write_arrows(parent, nodes, work, listing, at, kept);
 }
@@ -188,7 +158,7 @@ pub fn close(
     listing: &mut [u16],
     entries: u16,
     kept: u16,
-) -> Found
+) -> Result<u16, Endless>
     requires by_index { (rank trail : List ℕ) × (links : ℕ) × (rules : List Rule)
         × Stands (laid parent.now rank rows.now trail entries links) rules }
     requires closable { Closable entries nodes.now work.old listing.old kept }
@@ -197,12 +167,8 @@ pub fn close(
         Stands t rules
         → ClosedBy (bounds t) rules nodes.now kept listing.old result listing.new }
 {
-    clear(work, entries);
-    match visit_all(parent, rows, nodes, work, listing, entries, kept) {
-        Found::Endless(i) => Found::Endless(i),
-        Found::Types(count) => {
-            write(parent, nodes, work, listing, count, kept);
-            Found::Types(count)
-        }
-    }
+    work[..WORK * (entries as usize)].fill(0);
+    let count = visit_all(parent, rows, nodes, work, listing, entries, kept)?;
+    write(parent, nodes, work, listing, count, kept);
+    Ok(count)
 }

@@ -18,7 +18,7 @@ ghost use Rattle.nodes.specs.declared.Record.TheVariants.{TakeBack};
 use super::Answer;
 use classes::context::Added;
 use classes::{Bound, Mark, context, undo};
-use closing::{Found, listing};
+use closing::{Endless, listing};
 use nodes::kept::{ENTRIES_BEFORE, LINKS_BEFORE, NODE};
 
 // The entries that stand from the start: 1, and 2^(2^n) for n from 0 to 31.
@@ -129,8 +129,8 @@ pub fn close(
 {
     let kept = live.kept;
     match listing::close(parent, rows, nodes, work, listed, live.entries, kept) {
-        Found::Types(types) => Answer::Closed(kept, types),
-        Found::Endless(i) => Answer::Endless(i),
+        Ok(types) => Answer::Closed(kept, types),
+        Err(Endless { node }) => Answer::Endless(node),
     }
 }
 

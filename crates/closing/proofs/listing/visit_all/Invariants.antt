@@ -1,7 +1,7 @@
 -- `closing::listing::visit_all` meets its contract. The invariant: the first `i` nodes have types, and these are numbered.
 use mathlib.Core.Path.{◌≡◌}
 use mathlib.Core.List.{List, []}
-use Prim.Native.Nat.{ℕ, ◌-◌, ◌≤◌}
+use Prim.Native.Nat.{ℕ}
 use lib.ListN.{length}
 use Rattle.classes.specs.Columns.{laid}
 use Rattle.classes.specs.Forced.{Rule}
@@ -12,11 +12,8 @@ use Rattle.closing.proofs.listing.visit_all.Given as goal
 
 abbrev pub invariant-loop-i : goal.invariant-loop-i
 invariant-loop-i l =
-    ((l.i ≤ l.kept) × (length l.work ≡ length l.initial.work) × (length l.listing ≡ length l.initial.listing))
+    ((length l.work ≡ length l.initial.work) × (length l.listing ≡ length l.initial.listing))
     × ((rank trail : List ℕ) (links : ℕ) (rules : List Rule) →
     Stands (laid l.parent rank l.rows trail l.entries links) rules →
     Settled (laid l.parent rank l.rows trail l.entries links) rules l.initial.work l.initial.listing 0 [] →
     Through (laid l.parent rank l.rows trail l.entries links) rules l.nodes l.initial.listing l.i l.work l.listing l.count)
-
-abbrev pub decreases-loop-i : goal.decreases-loop-i
-decreases-loop-i l = l.kept - l.i

@@ -7,7 +7,3 @@ is_numbered-requires c = mark_there c.requires.by_index.5 c.requires.by_index.6 
 
 pub returns-then-is_numbered : goal.returns-then-is_numbered
 returns-then-is_numbered c = λ rank trail links rules ts s q. visited_again s q _ c.requires.a_lt_entries (c.is_numbered.ensures.0 c.if-is_numbered.true)
-
-pub visit-requires : goal.visit-requires
-visit-requires c =
-    record { by_index = c.requires.by_index; a_lt_entries = c.requires.a_lt_entries; a_value = c.is_numbered.ensures.1 c.if-is_numbered.false }

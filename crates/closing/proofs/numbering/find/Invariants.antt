@@ -3,7 +3,7 @@ use Rattle.closing.proofs.Chains.{Searching}
 use Rattle.closing.proofs.numbering.find.Given as goal
 
 abbrev pub invariant-loop-at : goal.invariant-loop-at
-invariant-loop-at l = Searching l.entries l.work l.listing l.count l.k l.l l.r l.at
+invariant-loop-at l = Searching l.entries l.work l.listing l.count l.ty.kind l.ty.left l.ty.right l.at
 
 abbrev pub decreases-loop-at : goal.decreases-loop-at
 decreases-loop-at l = l.at

@@ -6,8 +6,8 @@ use Rattle.closing.proofs.walk.complete.Goals as goal
 pub overflow_add-work : goal.overflow_add-work
 overflow_add-work c = record { fits = omega (arith, number_low c.number-t.ensures, c.requires.steppable.fewer, c.requires.steppable.chains.small) }
 
-pub returns-then-t-count : goal.returns-then-t-count
-returns-then-t-count c = completed_new c.number-t.ensures c.if-t-count.true
+pub returns-then-t-at : goal.returns-then-t-at
+returns-then-t-at c = completed_new c.number-t.ensures c.if-t-at.true
 
-pub returns : goal.returns
-returns c = completed_again c.number-t.ensures c.if-t-count.false
+pub returns-else-t-at : goal.returns-else-t-at
+returns-else-t-at c = completed_again c.number-t.ensures c.if-t-at.false

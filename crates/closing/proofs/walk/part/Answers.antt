@@ -1,30 +1,24 @@
 -- `closing::walk::part` meets its contract. That the left part is not open, past its test, is left to the search, so that another test
 -- is refused for what is then not known, and not for a name.
-use native.Mathlib.Omega.{arith}
-use mathlib.Core.Path.{sym, subst}
+use mathlib.Core.Path.{sym, subst₂}
 use mathlib.Core.List.{List}
-use Prim.Native.Nat.{ℕ, ◌+◌}
+use Prim.Native.Nat.{ℕ}
+use Rattle.std.specs.Prelude.{Ok}
+use Rattle.closing.specs.declared.walk.Goes.{Goes}
 use Rattle.closing.specs.Walking.{Parted}
 use Rattle.closing.proofs.Steps.{numbered_mark}
-use Rattle.closing.specs.declared.walk.Turn.TheVariants.{Goes}
 use Rattle.closing.specs.Walking.Parted.{left_opened, left_open, right_opened, right_open, both}
 use borrow.Author.Rules.{rules}
 use Rattle.closing.proofs.walk.part.Goals as goal
 
-pub open-requires : goal.open-requires
-open-requires c = let room = c.requires.steppable.room _ c.requires.top_lt_entries.1 c.if-one-eq-UNSEEN.true in (omega (arith, room, c.requires.steppable.chains.work_room), omega (arith, c.requires.top_lt_entries.1, c.requires.steppable.chains.work_room))
-
 pub returns-then-one-eq-UNSEEN : goal.returns-then-one-eq-UNSEEN
-returns-then-one-eq-UNSEEN c = subst (λ (w : List ℕ). Parted c.args.entries c.args.work.now c.args.listing.now c.args.depth c.args.count c.args.top c.args.k c.args.l c.args.r (Goes (c.args.depth + 1) c.args.count) w c.args.listing.now) (sym c.open.ensures) (left_opened c.if-one-eq-UNSEEN.true)
+returns-then-one-eq-UNSEEN c = subst₂ (λ (x : Goes) (w : List ℕ). Parted c.args.entries c.args.work.now c.args.listing.now c.args.at.depth c.args.at.types c.args.top c.args.ty.kind c.args.ty.left c.args.ty.right (Ok x) w c.args.listing.now) (sym c.open.ensures.1) (sym c.open.ensures.0) (left_opened c.if-one-eq-UNSEEN.true)
 
 pub returns-then-one-eq-OPEN : goal.returns-then-one-eq-OPEN
 returns-then-one-eq-OPEN c = left_open c.if-one-eq-OPEN.true
 
-pub open-requires-then-other-eq-UNSEEN : goal.open-requires-then-other-eq-UNSEEN
-open-requires-then-other-eq-UNSEEN c = let room = c.requires.steppable.room _ c.requires.top_lt_entries.2 c.if-other-eq-UNSEEN.true in (omega (arith, room, c.requires.steppable.chains.work_room), omega (arith, c.requires.top_lt_entries.2, c.requires.steppable.chains.work_room))
-
 pub returns-then-other-eq-UNSEEN : goal.returns-then-other-eq-UNSEEN
-returns-then-other-eq-UNSEEN c = subst (λ (w : List ℕ). Parted c.args.entries c.args.work.now c.args.listing.now c.args.depth c.args.count c.args.top c.args.k c.args.l c.args.r (Goes (c.args.depth + 1) c.args.count) w c.args.listing.now) (sym c.open-then-other-eq-UNSEEN.ensures) (right_opened (numbered_mark c.if-one-eq-UNSEEN.false (search rules)) c.if-other-eq-UNSEEN.true)
+returns-then-other-eq-UNSEEN c = subst₂ (λ (x : Goes) (w : List ℕ). Parted c.args.entries c.args.work.now c.args.listing.now c.args.at.depth c.args.at.types c.args.top c.args.ty.kind c.args.ty.left c.args.ty.right (Ok x) w c.args.listing.now) (sym c.open-then-other-eq-UNSEEN.ensures.1) (sym c.open-then-other-eq-UNSEEN.ensures.0) (right_opened (numbered_mark c.if-one-eq-UNSEEN.false (search rules)) c.if-other-eq-UNSEEN.true)
 
 pub returns-then-other-eq-OPEN : goal.returns-then-other-eq-OPEN
 returns-then-other-eq-OPEN c = right_open (numbered_mark c.if-one-eq-UNSEEN.false (search rules)) c.if-other-eq-OPEN.true

@@ -4,31 +4,27 @@ use mathlib.Core.List.{List}
 use Prim.Native.Nat.{ℕ}
 use Rattle.classes.specs.declared.Bound.{Bound}
 use Rattle.closing.specs.Walking.{seen_in, top_of, PartsBelow, Stepped}
-use Rattle.closing.specs.declared.walk.Turn.{Turn}
+use Rattle.closing.specs.declared.walk.Cycle.{Cycle}
+use Rattle.closing.specs.declared.walk.Goes.{Goes}
+use Rattle.std.specs.Prelude.{Result}
 use Rattle.closing.proofs.walk.step.Goals as goal
 use Rattle.closing.proofs.walk.step.Goals.{After-look}
 
 -- what the class at the top shows, as it was looked at
 module _ (c : After-look) where
-  abbrev Left : Bound → Turn → List ℕ → List ℕ → Type 0
+  abbrev Left : Bound → Result Goes Cycle → List ℕ → List ℕ → Type 0
   Left b =
-      Stepped c.args.entries c.args.work.now c.args.listing.now c.args.depth c.args.count (top_of c.args.work.now c.args.depth) b
+      Stepped c.args.entries c.args.work.now c.args.listing.now c.args.at.depth c.args.at.types (top_of c.args.work.now c.args.at.depth) b
 
   abbrev looked : Bound
   looked =
-      seen_in c.args.parent.now c.args.rows.now (top_of c.args.work.now c.args.depth)
+      seen_in c.args.parent.now c.args.rows.now (top_of c.args.work.now c.args.at.depth)
 
-  stepped : {b : Bound} (x : Turn) (w l : List ℕ) → c.look.result ≡ b → Left b x w l → Left looked x w l
+  stepped : {b : Bound} (x : Result Goes Cycle) (w l : List ℕ) → c.look.result ≡ b → Left b x w l → Left looked x w l
   stepped x w l e s = subst (λ (b : Bound). Left b x w l) (sym e ∙ c.look.ensures) s
 
   parts_below : {b : Bound} → c.look.result ≡ b → PartsBelow c.args.entries b
   parts_below e = subst (PartsBelow c.args.entries) (sym c.look.ensures ∙ e) (c).requires.fact.1
-
-pub part-requires : goal.part-requires
-part-requires c = let below = parts_below (goal.at.part-requires c).After-look c.in-Sum.is in record { steppable = c.requires.steppable; top_lt_entries = (c.requires.steppable.top, below.0, below.1) }
-
-pub part-requires-in-Product : goal.part-requires-in-Product
-part-requires-in-Product c = let below = parts_below (goal.at.part-requires-in-Product c).After-look c.in-Product.is in record { steppable = c.requires.steppable; top_lt_entries = (c.requires.steppable.top, below.0, below.1) }
 
 pub returns-in-Free : goal.returns-in-Free
 returns-in-Free c = stepped (goal.at.returns-in-Free c).After-look _ _ _ c.in-Free.is c.complete.ensures

@@ -13,14 +13,14 @@ use Rattle.closing.specs.Visiting.{unseen, Settled}
 use Rattle.closing.proofs.Walks.{Walking}
 use Rattle.closing.proofs.walk.visit.Given as goal
 
-abbrev pub invariant-loop-depth : goal.invariant-loop-depth
-invariant-loop-depth l =
+abbrev pub invariant-loop-at : goal.invariant-loop-at
+invariant-loop-at l =
     ((length l.work ≡ length l.initial.work) × (length l.listing ≡ length l.initial.listing))
     × ((begun rank trail : List ℕ) (links : ℕ) (rules : List Rule) (ts₀ : List Ty) →
     Stands (laid l.parent rank l.rows trail l.entries links) rules →
     Settled (laid l.parent rank l.rows trail l.entries links) rules begun l.initial.listing l.count ts₀ →
     l.a < l.entries → mark_at begun (root_in l.parent l.a) ≡ 0 → l.initial.work ≡ opened begun 0 (root_in l.parent l.a) →
-    ((ts : List Ty) × Walking (laid l.parent rank l.rows trail l.entries links) rules begun l.initial.listing l.count ts₀ (root_in l.parent l.a) l.work l.listing (path_in l.work l.depth) l.types ts))
+    ((ts : List Ty) × Walking (laid l.parent rank l.rows trail l.entries links) rules begun l.initial.listing l.count ts₀ (root_in l.parent l.a) l.work l.listing (path_in l.work l.at.depth) l.at.types ts))
 
-abbrev pub decreases-loop-depth : goal.decreases-loop-depth
-decreases-loop-depth l = 2 * unseen l.work l.entries + l.depth
+abbrev pub decreases-loop-at : goal.decreases-loop-at
+decreases-loop-at l = 2 * unseen l.work l.entries + l.at.depth
