@@ -32,36 +32,15 @@ never c =
 pub loop-i-init : goal.loop-i-init
 loop-i-init c = (refl, refl, opening_begins c.requires.1 c.requires.2 c.requires.3 c.requires.4)
 
-pub standing_bound-requires : goal.standing_bound-requires
-standing_bound-requires c = c.loop-i-test.true
-
 pub add-requires : goal.add-requires
 add-requires c = (c.loop-i.invariant.2.room.0, c.loop-i.invariant.2.room.1, c.loop-i.invariant.2.room.2.made)
-
-pub shape_of-parent-in_default : goal.shape_of-parent-in_default
-shape_of-parent-in_default c = absurd (never c)
-
-pub shape_of-rows-in_default : goal.shape_of-rows-in_default
-shape_of-rows-in_default c = absurd (never c)
 
 pub returns-in_default : goal.returns-in_default
 returns-in_default c = absurd (never c)
 
-pub overflow_add-i : goal.overflow_add-i
-overflow_add-i c = omega (arith, c.loop-i-test.true)
-
-pub loop-i-smaller : goal.loop-i-smaller
-loop-i-smaller c = omega (arith, c.loop-i-test.true)
-
 pub loop-i-preserved : goal.loop-i-preserved
 loop-i-preserved c =
     (c.add.auto.parent ∙ c.loop-i.invariant.0, c.add.auto.rows ∙ c.loop-i.invariant.1, adding_again c.loop-i.invariant.2 (there (goal.at.loop-i-preserved c).After-add) (then (goal.at.loop-i-preserved c).After-add) c.standing_bound.ensures (λ rank trail. refl) c.add.ensures)
-
-pub shape_of-parent : goal.shape_of-parent
-shape_of-parent c = c.loop-i.invariant.0
-
-pub shape_of-rows : goal.shape_of-rows
-shape_of-rows c = c.loop-i.invariant.1
 
 pub returns : goal.returns
 returns c =

@@ -1,31 +1,27 @@
--- `types::state::close` meets its contract.
+-- `types::state::State::close` meets its contract.
 use mathlib.Core.Path.{◌≡◌, subst}
 use mathlib.Core.List.{List}
 use Prim.Native.Nat.{ℕ}
-use Rattle.classes.specs.Columns.{laid}
 use Rattle.closing.specs.declared.Found.{Found}
 use Rattle.types.specs.Calls.{Closing}
-use Rattle.types.specs.States.{State, state, Opened}
+use Rattle.types.specs.States.{Opened}
+use Rattle.types.specs.Lent.{held_with}
 use Rattle.types.proofs.Answering.{answer_of}
 use Rattle.types.proofs.Handing.{opened_stands, closable, closing_kept}
-use Rattle.types.proofs.state.close.Goals as goal
-use Rattle.types.proofs.state.close.Goals.{After-close}
+use Rattle.types.proofs.state.State.close.Goals as goal
+use Rattle.types.proofs.state.State.close.Goals.{After-close}
 
 -- what `closing` leaves, by its answer
 module _ (c : After-close) where
-  abbrev lent : List ℕ → List ℕ → State
-  lent rank trail =
-      state (laid c.args.parent.now rank c.args.rows.now trail c.args.live.entries c.args.live.links) c.args.nodes.now c.args.live.kept
-
-  left : {most : ℕ} {rank trail : List ℕ} (o : Opened most (lent rank trail)) (r : Found) → c.close.result ≡ r →
-      Closing most o.nodes c.args.listed.now (answer_of c.args.live.kept r) c.close.new.listing
+  left : {most : ℕ} {rank trail : List ℕ} (o : Opened most (held_with c.args.self.now rank trail)) (r : Found) → c.close.result ≡ r →
+      Closing most o.nodes c.args.listed.now (answer_of c.args.self.now.live.kept r) c.close.new.listing
   left {most} {rank} {trail} o r is =
-      subst (λ (x : Found). Closing most o.nodes c.args.listed.now (answer_of c.args.live.kept x) c.close.new.listing) is
-      (closing_kept o (c.close.ensures rank trail c.args.live.links _ (opened_stands o)))
+      subst (λ (x : Found). Closing most o.nodes c.args.listed.now (answer_of c.args.self.now.live.kept x) c.close.new.listing) is
+      (closing_kept o (c.close.ensures rank trail c.args.self.now.live.links _ (opened_stands o)))
 
 pub close-requires : goal.close-requires
 close-requires c =
-    record { by_index = (c.requires.by_index.1, c.requires.by_index.2, c.args.live.links, _, opened_stands c.requires.by_index.3); closable = closable c.requires.by_index.3 c.requires.entries_bound.0 c.requires.entries_bound.1 c.requires.entries_bound.2 }
+    record { by_index = (c.requires.by_index.1, c.requires.by_index.2, c.args.self.now.live.links, _, opened_stands c.requires.by_index.3); closable = closable c.requires.by_index.3 c.requires.entries_bound.0 c.requires.entries_bound.1 c.requires.entries_bound.2 }
 
 pub shape_of-work-in-Types : goal.shape_of-work-in-Types
 shape_of-work-in-Types c = c.close.auto.work
