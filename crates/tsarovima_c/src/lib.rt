@@ -13,8 +13,7 @@ ghost use Rattle.tsarovima_c.specs.Lent.{Lent, lent, RoomLengths, OpenedIfLong, 
 use headers::EIGHT;
 use texts::Text;
 use types::limits::{ENTRIES, LISTING, NODE_ROWS, ROWS, TRAIL, WORK};
-use types::state;
-use types::state::Live;
+use types::state::{self, Live, State};
 
 // What the record calls return.
 const DONE: u32 = 0;
@@ -169,30 +168,23 @@ pub fn tsarovima_record(
     if wrong_room(work.len(), listing.len(), bytes.len(), answer.len()) {
         return WRONG_LENGTH;
     }
-    let entries = live[0];
-    let links = live[1];
-    let kept = live[2];
-    let then = runs::run(
+    let counts = Live {
+        entries: live[0],
+        links: live[1],
+        kept: live[2],
+    };
+    let mut state = State {
         parent,
         rank,
         rows,
         trail,
-        work,
         nodes,
-        listing,
-        bytes,
-        0,
-        answer,
-        Live {
-            entries,
-            links,
-            kept,
-        },
-        1,
-    );
-    live[0] = then.entries;
-    live[1] = then.links;
-    live[2] = then.kept;
+        live: counts,
+    };
+    runs::run(&mut state, work, listing, bytes, 0, answer, 1);
+    live[0] = state.live.entries;
+    live[1] = state.live.links;
+    live[2] = state.live.kept;
     DONE
 }
 
