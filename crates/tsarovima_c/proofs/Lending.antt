@@ -1,16 +1,13 @@
 -- What a host lends: looked at, cleared, opened, and with its counts.
 use mathlib.Core.Path.{◌≡◌, refl, sym, ap, ◌∙◌, subst, subst₂}
 use mathlib.Core.Bool.{true, false}
-use mathlib.Core.List.{List, [], ◌∷◌, append-nil}
+use mathlib.Core.List.{List, [], ◌∷◌}
 use Prim.Native.Nat.{ℕ, ◌*◌, ◌^◌, ◌≤◌, ◌<◌}
-use native.Mathlib.Nat.{le_antisymm}
 use native.Mathlib.Omega.{arith}
 use lib.ListN.{length, set, replicate, length-replicate}
-use lib.Seq.{drop-length}
 use Rattle.classes.specs.Table.{fresh}
 use Rattle.classes.specs.Columns.{laid}
 use Rattle.nodes.specs.Layout.{standing}
-use Rattle.closing.proofs.Beginning.{Clearing}
 use Rattle.combinators.specs.Entered.{entered}
 use Rattle.types.specs.Limits.{most_nodes, most_entries, nodes_long}
 use Rattle.types.specs.States.{State, state, Opened}
@@ -26,12 +23,6 @@ denies h = (λ e. h, λ e. let z : ◌≡◌ {A = ℕ} 0 1 = cc in absurd (omega
 
 pub admits : {P : Type 0} → P → Denies false P
 admits h = (λ e. let z : ◌≡◌ {A = ℕ} 0 1 = cc in absurd (omega arith), λ e. h)
-
--- a table cleared to its end is one repeated value
-pub all_cleared : {table₀ table : List ℕ} {i : ℕ} → Clearing table₀ (length table₀) table i → length table₀ ≤ i → table ≡ replicate (length table₀) 0
-all_cleared {table₀} {table} {i} inv end =
-    let last : i ≡ length table₀ = le_antisymm inv.high end in
-    inv.are ∙ rw (last, drop-length, append-nil)
 
 -- three counts stored
 three : (v : List ℕ) (e l k : ℕ) → length v ≡ 3 → set (set (set v 0 e) 1 l) 2 k ≡ e ∷ l ∷ k ∷ []

@@ -6,7 +6,7 @@
 
 #![tactic(auto)]
 
-ghost use Rattle.std.specs.Prelude.{◌≡◌, length, replicate};
+ghost use Rattle.std.specs.Prelude.{◌≡◌, length};
 ghost use Rattle.tsarovima_c.specs.Lent.{RunBy, Denies, Tables, tables, TableLengths, OpenedBy};
 ghost use Rattle.tsarovima_c.specs.Lent.{Lent, lent, RoomLengths, OpenedIfLong, RecordedBy, closing_bytes, TextBy};
 
@@ -28,16 +28,6 @@ pub fn tsarovima_job(job: &[u8], answers: &mut [u8], listing: &mut [u16]) -> u32
     ensures { RunBy job.now answers.old listing.old result answers.new listing.new }
 {
     headers::code(jobs::job(job, answers, listing))
-}
-
-fn clear(table: &mut [u16])
-    ensures { table.new ≡ replicate (length table.old) 0 }
-{
-    let mut i: usize = 0;
-    while i < table.len() {
-        table[i] = 0;
-        i += 1;
-    }
 }
 
 // Whether a table is not as long as 1,024 nodes need.
@@ -117,11 +107,11 @@ pub fn tsarovima_open(
     ) {
         return WRONG_LENGTH;
     }
-    clear(parent);
-    clear(rank);
-    clear(rows);
-    clear(trail);
-    clear(nodes);
+    parent.fill(0);
+    rank.fill(0);
+    rows.fill(0);
+    trail.fill(0);
+    nodes.fill(0);
     let opened = state::open(parent, rows);
     live[0] = opened.entries;
     live[1] = opened.links;

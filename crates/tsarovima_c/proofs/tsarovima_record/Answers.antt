@@ -1,5 +1,5 @@
 -- `tsarovima_c::tsarovima_record` meets its contract: what putting one record promises, with the counts stored, or a length is wrong.
-use Rattle.std.proofs.Common.{rules, ◌≡◌}
+use Rattle.std.proofs.Common.{rules}
 use native.Mathlib.Omega.{arith}
 use lib.ListN.{length-set}
 use Rattle.tsarovima_c.specs.Lent.{tables, Lent, lent, Long, RecordedBy}
