@@ -15,7 +15,7 @@ ghost use Rattle.nodes.specs.declared.Record.TheVariants.{Offer, TakeBack, Close
 use nodes::records::LARGEST_WORD;
 use nodes::{Coded, Node};
 use types::limits::{ENTRIES, LISTING, NODE_ROWS, PENDING, ROWS, TRAIL, WORK};
-use types::state::Live;
+use types::state::{Live, State};
 use types::{Answer, state};
 
 // The state: the tables as arrays, and how much of them is in use.
@@ -72,7 +72,7 @@ fn word_of(n: Node) -> u16
 }
 
 // Offers a node: the checks in the order 1, 3, 2, 4.
-pub fn offer(s: Owned, n: Node) -> After
+pub fn offer(mut s: Owned, n: Node) -> After
     requires { Opened most_nodes (state_of s) }
     ensures { (o : Opened most_nodes (state_of s)) → Called most_nodes (state_of s) o (Offer n) result.answer (state_of result.state) }
 {
@@ -82,71 +82,36 @@ pub fn offer(s: Owned, n: Node) -> After
             state: s,
         };
     }
-    let mut parent = s.parent;
-    let mut rank = s.rank;
-    let mut rows = s.rows;
-    let mut trail = s.trail;
-    let mut nodes = s.nodes;
     let mut pending = [0u16; PENDING];
-    let live = s.live;
-    let step = offers::offer(
-        &mut parent,
-        &mut rank,
-        &mut rows,
-        &mut trail,
-        &mut pending,
-        &mut nodes,
-        live,
-        Coded::from(n),
-    );
-    let answer = step.answer;
-    let live = step.live;
-    After {
-        answer,
-        state: Owned {
-            parent,
-            rank,
-            rows,
-            trail,
-            nodes,
-            live,
-        },
-    }
+    let mut lent = State {
+        parent: &mut s.parent,
+        rank: &mut s.rank,
+        rows: &mut s.rows,
+        trail: &mut s.trail,
+        nodes: &mut s.nodes,
+        live: s.live,
+    };
+    let answer = offers::offer(&mut lent, &mut pending, Coded::from(n));
+    s.live = lent.live;
+    After { answer, state: s }
 }
 
 // Takes back to the first `to` nodes.
-pub fn take_back(s: Owned, to: u16) -> After
+pub fn take_back(mut s: Owned, to: u16) -> After
     requires { Opened most_nodes (state_of s) }
     ensures { (o : Opened most_nodes (state_of s)) → Called most_nodes (state_of s) o (TakeBack to) result.answer (state_of result.state) }
 {
-    let mut parent = s.parent;
-    let mut rank = s.rank;
-    let mut rows = s.rows;
-    let mut trail = s.trail;
-    let mut nodes = s.nodes;
-    let live = s.live;
-    let step = state::take_back(
-        &mut parent,
-        &mut rank,
-        &mut rows,
-        &mut trail,
-        &mut nodes,
-        live,
-        to,
-    );
-    let answer = step.answer;
-    let live = step.live;
-    After {
-        answer,
-        state: Owned {
-            parent,
-            rank,
-            rows,
-            trail,
-            nodes,
-            live,
-        },
-    }
+    let mut lent = State {
+        parent: &mut s.parent,
+        rank: &mut s.rank,
+        rows: &mut s.rows,
+        trail: &mut s.trail,
+        nodes: &mut s.nodes,
+        live: s.live,
+    };
+    let answer = lent.take_back(to);
+    s.live = lent.live;
+    After { answer, state: s }
 }
 
 // The listing where there are no types, over zeros: 0, 0, 4, 4.
@@ -159,18 +124,22 @@ fn no_listing(listing: &mut [u16])
 }
 
 // Closes, and hands the listing out.
-pub fn close(s: Owned) -> Listed
+pub fn close(mut s: Owned) -> Listed
     requires { Opened most_nodes (state_of s) }
     ensures { (o : Opened most_nodes (state_of s)) →
         Called most_nodes (state_of s) o Close result.answer (state_of result.state) × Handed longest_listing o.nodes result.listing }
 {
-    let parent = s.parent;
-    let rows = s.rows;
-    let nodes = s.nodes;
-    let live = s.live;
     let mut work = [0u16; WORK];
     let mut listing = [0u16; LISTING];
-    let answer = state::close(&parent, &rows, &nodes, &mut work, &mut listing, live);
+    let lent = State {
+        parent: &mut s.parent,
+        rank: &mut s.rank,
+        rows: &mut s.rows,
+        trail: &mut s.trail,
+        nodes: &mut s.nodes,
+        live: s.live,
+    };
+    let answer = lent.close(&mut work, &mut listing);
     if let Answer::Endless(_) = answer {
         let mut none = [0u16; LISTING];
         no_listing(&mut none);

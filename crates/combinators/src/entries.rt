@@ -20,9 +20,7 @@ pub(super) fn add<const N: usize>(
 {
     let mut entries = e;
     for b in bounds {
-        let Some(_) = context::add(parent, rows, Mark { entries, links }, b) else {
-            return entries;
-        };
+        context::add(parent, rows, Mark { entries, links }, b).unwrap();
         entries += 1;
     }
     entries

@@ -8,7 +8,7 @@ ghost use Rattle.jobs.specs.Jobs.{Job};
 use formats::listing;
 use headers::{EIGHT, HEADER, Outcome};
 use types::limits::{ENTRIES, LISTING, NODE_ROWS, ROWS, TRAIL, WORK};
-use types::state;
+use types::state::{self, State};
 
 // Runs a job, or refuses it and leaves both buffers as they are.
 pub fn job(job: &[u8], answers: &mut [u8], listing: &mut [u16]) -> Outcome
@@ -27,18 +27,21 @@ pub fn job(job: &[u8], answers: &mut [u8], listing: &mut [u16]) -> Outcome
     let mut listed = [0u16; LISTING];
     let live = state::open(&mut parent, &mut rows);
     listing::clear(&mut listed);
+    let mut lent = State {
+        parent: &mut parent,
+        rank: &mut rank,
+        rows: &mut rows,
+        trail: &mut trail,
+        nodes: &mut nodes,
+        live,
+    };
     runs::run(
-        &mut parent,
-        &mut rank,
-        &mut rows,
-        &mut trail,
+        &mut lent,
         &mut work,
-        &mut nodes,
         &mut listed,
         job,
         HEADER,
         answers,
-        live,
         (job.len() - HEADER) / EIGHT,
     );
     listing::show(&listed, listing);

@@ -4,7 +4,6 @@
 #![tactic(auto)]
 
 ghost use Rattle.std.specs.Prelude.{◌≡◌, true, false, ℕ, ◌+◌, ◌*◌, ◌≤◌, length, get_or};
-ghost use Rattle.classes.specs.Columns.{laid, lent};
 ghost use Rattle.classes.specs.Promises.{made_links};
 ghost use Rattle.nodes.specs.Layout.{children, Proper};
 ghost use Rattle.nodes.specs.Layout.{arrow as from_to};
@@ -14,10 +13,11 @@ ghost use Rattle.nodes.specs.Meant.{Countable, meant, meant_rule};
 ghost use Rattle.nodes.specs.declared.Record.TheVariants.{Offer};
 ghost use Rattle.combinators.specs.Entering.{Left};
 ghost use Rattle.types.specs.Answers.{Below};
-ghost use Rattle.types.specs.States.{held, Opened};
+ghost use Rattle.types.specs.States.{Opened};
+ghost use Rattle.types.specs.Lent.{classes_of, held_by, SameTables};
 ghost use Rattle.types.specs.Applying.{row_written, Meetable};
 ghost use Rattle.types.specs.Calls.{Called};
-ghost use Rattle.offers.specs.RulesMet.{RulesMet, met_links};
+ghost use Rattle.offers.specs.RulesMet.{RulesMet};
 
 use classes::context::Joined;
 use classes::{Mark, context, undo};
@@ -25,14 +25,7 @@ use nodes::Coded;
 use nodes::arrow::{Adds, Arrow, Rule};
 use nodes::kept::{ENTRIES_BEFORE, FIRST, KIND, LINKS_BEFORE, NODE, SECOND, SOURCE, TARGET};
 use types::Answer;
-use types::state::{Live, Step};
-
-// What joining a node's rules leaves: the links then, and for a clash the rule's number.
-#[derive(Clone, Copy)]
-pub enum Met {
-    All(u16),
-    Clash(u16, u16),
-}
+use types::state::State;
 
 // The first child, 0 where there is none. The second field is the second child, or 0.
 fn first_child(n: Coded) -> u16
@@ -57,14 +50,14 @@ fn children_below(n: Coded, next: u16) -> bool
 }
 
 // The arrow of the node with this number, as its row has it.
-fn arrow_at(nodes: &[u16], i: u16) -> Arrow
-    requires { node_width * i + node_width ≤ length nodes.now }
-    ensures { result ≡ from_to (source_at nodes.now i) (target_at nodes.now i) }
+fn arrow_at(state: &State<'_>, i: u16) -> Arrow
+    requires { node_width * i + node_width ≤ length state.now.nodes.now }
+    ensures { result ≡ from_to (source_at state.now.nodes.now i) (target_at state.now.nodes.now i) }
 {
     let row = NODE * (i as usize);
     Arrow {
-        source: nodes[row + SOURCE],
-        target: nodes[row + TARGET],
+        source: state.nodes[row + SOURCE],
+        target: state.nodes[row + TARGET],
     }
 }
 
@@ -92,130 +85,106 @@ fn links_made(j: Joined) -> u16
     }
 }
 
-// Joins the rules that a row's entries left, `count` of them from `first` on, in order, and leaves at once with the first that clashes.
+// Joins the rules that a row's entries left, `count` of them from `first` on, in order, and leaves at once with the number of the
+// first that clashes.
 fn meet(
-    parent: &mut [u16],
-    rank: &mut [u16],
-    rows: &mut [u16],
-    trail: &mut [u16],
+    state: &mut State<'_>,
     pending: &mut [u16],
-    live: Mark,
     row: Adds,
     count: u16,
     first: Rule,
-) -> Met
-    requires meetable { Meetable (lent parent.old rank.old rows.old trail.old live) pending.old (meant row).needs }
-    requires countable { Countable row × Left (lent parent.old rank.old rows.old trail.old live) (meant row).needs count (meant_rule first) }
-    ensures { let was = lent parent.old rank.old rows.old trail.old live in
-        let is = laid parent.new rank.new rows.new trail.new live.entries (met_links result) in
-        RulesMet was (meant row).needs result is }
+) -> Result<(), u16>
+    requires meetable { Meetable (classes_of state.old) pending.old (meant row).needs }
+    requires countable { Countable row × Left (classes_of state.old) (meant row).needs count (meant_rule first) }
+    ensures same_tables { SameTables state.old state.new }
+    ensures stays { (state.new.nodes.now ≡ state.old.nodes.now) × (state.new.live.entries ≡ state.old.live.entries) }
+    ensures met { RulesMet (classes_of state.old) (meant row).needs result (classes_of state.new) }
 {
-    let entries = live.entries;
-    let mut links = live.links;
     if count == 0 {
-        return Met::All(links);
+        return Ok(());
     }
     let mut i = 0;
     let mut r = first;
     loop {
-        let now = Mark { entries, links };
-        let joined = context::join(parent, rank, rows, trail, pending, now, r.one, r.other);
-        let made = links_made(joined);
-        let Joined::Done(_) = joined else {
-            return Met::Clash(r.number, links + made);
+        let now = Mark {
+            entries: state.live.entries,
+            links: state.live.links,
         };
-        links += made;
+        let joined = context::join(
+            state.parent,
+            state.rank,
+            state.rows,
+            state.trail,
+            pending,
+            now,
+            r.one,
+            r.other,
+        );
+        state.live.links += links_made(joined);
+        let Joined::Done(_) = joined else {
+            return Err(r.number);
+        };
         i += 1;
         if count <= i {
-            return Met::All(links);
+            return Ok(());
         }
         r = combinators::rule_at(row, i);
     }
 }
 
 // Offers a node: the checks in the order 3, 2, 4.
-pub fn offer(
-    parent: &mut [u16],
-    rank: &mut [u16],
-    rows: &mut [u16],
-    trail: &mut [u16],
-    pending: &mut [u16],
-    nodes: &mut [u16],
-    live: Live,
-    n: Coded,
-) -> Step
-    requires by_index { (most : ℕ) × Opened most (held parent.old rank.old rows.old trail.old nodes.old live) }
-    requires regular { Regular n × Proper (node_of n) × (2 * length parent.old ≤ length pending.old) }
-    ensures { let was = held parent.old rank.old rows.old trail.old nodes.old live in
-        let is = held parent.new rank.new rows.new trail.new nodes.new result.live in
-        (most : ℕ) (o : Opened most was) → Called most was o (Offer (node_of n)) result.answer is }
+pub fn offer(state: &mut State<'_>, pending: &mut [u16], n: Coded) -> Answer
+    requires by_index { (most : ℕ) × Opened most (held_by state.old) }
+    requires regular { Regular n × Proper (node_of n) × (2 * length state.old.parent.now ≤ length pending.old) }
+    ensures same_tables { SameTables state.old state.new }
+    ensures called { let was = held_by state.old in
+        let is = held_by state.new in
+        (most : ℕ) (o : Opened most was) → Called most was o (Offer (node_of n)) result is }
 {
+    let live = state.live;
     let kept = live.kept;
-    if nodes.len() <= NODE * (kept as usize) {
-        return Step {
-            answer: Answer::Full,
-            live,
-        };
+    if state.nodes.len() <= NODE * (kept as usize) {
+        return Answer::Full;
     }
     if !children_below(n, kept) {
-        return Step {
-            answer: Answer::NoChild,
-            live,
-        };
+        return Answer::NoChild;
     }
     let before = Mark {
         entries: live.entries,
         links: live.links,
     };
-    let s = arrow_at(nodes, first_child(n));
-    let t = arrow_at(nodes, n.b);
+    let s = arrow_at(state, first_child(n));
+    let t = arrow_at(state, n.b);
     let row = Adds {
         node: n,
         s,
         t,
         e: live.entries,
     };
-    let entered = combinators::enter(parent, rows, live.links, row);
-    let entries = entered.entries;
-    let links = live.links;
-    let now = Mark { entries, links };
-    let first = entered.first;
+    let entered = combinators::enter(state.parent, state.rows, live.links, row);
+    state.live.entries = entered.entries;
     let gives = entered.gives;
-    match meet(
-        parent,
-        rank,
-        rows,
-        trail,
-        pending,
-        now,
-        row,
-        entered.rules,
-        first,
-    ) {
-        Met::Clash(rule, l) => {
+    match meet(state, pending, row, entered.rules, entered.first) {
+        Err(rule) => {
+            let now = Mark {
+                entries: state.live.entries,
+                links: state.live.links,
+            };
             undo::undo(
-                parent,
-                rank,
-                rows,
-                trail,
-                Mark { entries, links: l },
+                state.parent,
+                state.rank,
+                state.rows,
+                state.trail,
+                now,
                 before,
             );
-            Step {
-                answer: Answer::Clashes(rule),
-                live,
-            }
+            state.live = live;
+            Answer::Clashes(rule)
         }
-        Met::All(made) => {
-            write_row(nodes, kept, n, gives, before);
-            Step {
-                answer: Answer::Kept(kept, made - before.links),
-                live: Live {
-                    entries,
-                    links: made,
-                    kept: kept + 1,
-                },
-            }
+        Ok(()) => {
+            write_row(state.nodes, kept, n, gives, before);
+            state.live.kept = kept + 1;
+            Answer::Kept(kept, state.live.links - before.links)
         }
     }
 }

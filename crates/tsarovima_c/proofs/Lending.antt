@@ -1,19 +1,18 @@
 -- What a host lends: looked at, cleared, opened, and with its counts.
 use mathlib.Core.Path.{◌≡◌, refl, sym, ap, ◌∙◌, subst, subst₂}
 use mathlib.Core.Bool.{true, false}
-use mathlib.Core.List.{List, [], ◌∷◌, append-nil}
+use mathlib.Core.List.{List, [], ◌∷◌}
 use Prim.Native.Nat.{ℕ, ◌*◌, ◌^◌, ◌≤◌, ◌<◌}
-use native.Mathlib.Nat.{le_antisymm}
 use native.Mathlib.Omega.{arith}
 use lib.ListN.{length, set, replicate, length-replicate}
-use lib.Seq.{drop-length}
 use Rattle.classes.specs.Table.{fresh}
 use Rattle.classes.specs.Columns.{laid}
 use Rattle.nodes.specs.Layout.{standing}
-use Rattle.closing.proofs.Beginning.{Clearing}
 use Rattle.combinators.specs.Entered.{entered}
 use Rattle.types.specs.Limits.{most_nodes, most_entries, nodes_long}
 use Rattle.types.specs.States.{State, state, Opened}
+use Rattle.types.specs.Lent.{held_by}
+use Rattle.types.specs.declared.state.State.{State as Lending}
 use Rattle.types.proofs.Begun.{opened_first}
 use Rattle.runs.specs.Putting.{Recorded, Puts}
 use Rattle.tsarovima_c.specs.Lent.{tables, state_of, Denies, Sized, OpenedBy, Lent, lent, Long, RecordedBy}
@@ -24,12 +23,6 @@ denies h = (λ e. h, λ e. let z : ◌≡◌ {A = ℕ} 0 1 = cc in absurd (omega
 
 pub admits : {P : Type 0} → P → Denies false P
 admits h = (λ e. let z : ◌≡◌ {A = ℕ} 0 1 = cc in absurd (omega arith), λ e. h)
-
--- a table cleared to its end is one repeated value
-pub all_cleared : {table₀ table : List ℕ} {i : ℕ} → Clearing table₀ (length table₀) table i → length table₀ ≤ i → table ≡ replicate (length table₀) 0
-all_cleared {table₀} {table} {i} inv end =
-    let last : i ≡ length table₀ = le_antisymm inv.high end in
-    inv.are ∙ rw (last, drop-length, append-nil)
 
 -- three counts stored
 three : (v : List ℕ) (e l k : ℕ) → length v ≡ 3 → set (set (set v 0 e) 1 l) 2 k ≡ e ∷ l ∷ k ∷ []
@@ -70,13 +63,15 @@ only_one : {bytes listed answers listed' answers' : List ℕ} {s s' : State} {o 
     Recorded s o bytes 0 listed answers 0 s' listed' answers'
 only_one (Puts.more Puts.none x) = x
 
--- a record put, and the counts stored
-pub recorded_by : {was : Lent} {p r q t n bytes work listing answer : List ℕ} {e j kept : ℕ} → Long was bytes →
-    Sized (tables p r q t n (set (set (set was.tables.live 0 e) 1 j) 2 kept)) →
-    ((o : Opened most_nodes (state_of was.tables)) → (o' : Opened most_nodes (state (laid p r q t e j) n kept)) ×
-    Puts bytes 0 (state_of was.tables) o was.listing was.answer 1 (state (laid p r q t e j) n kept) o' listing answer) →
-    RecordedBy was bytes 0 (lent (tables p r q t n (set (set (set was.tables.live 0 e) 1 j) 2 kept)) work listing answer)
-recorded_by {was} {p} {r} {q} {t} {n} {bytes} {work} {listing} {answer} {e} {j} {kept} long sized puts =
-    let stored = three was.tables.live e j kept long.0.counts in
+-- a record put to a state made of the tables that were lent, and its counts stored
+pub recorded_by : {was : Lent} {p r q t n bytes work listing answer : List ℕ} (s : Lending) → Long was bytes →
+    Sized (tables p r q t n (set (set (set was.tables.live 0 s.live.entries) 1 s.live.links) 2 s.live.kept)) →
+    p ≡ s.parent.now → r ≡ s.rank.now → q ≡ s.rows.now → t ≡ s.trail.now → n ≡ s.nodes.now →
+    ((o : Opened most_nodes (state_of was.tables)) → (o' : Opened most_nodes (held_by s)) ×
+    Puts bytes 0 (state_of was.tables) o was.listing was.answer 1 (held_by s) o' listing answer) →
+    RecordedBy was bytes 0 (lent (tables p r q t n (set (set (set was.tables.live 0 s.live.entries) 1 s.live.links) 2 s.live.kept)) work listing answer)
+recorded_by {was} {p} {r} {q} {t} {n} {bytes} {work} {listing} {answer} s long sized ep er eq et en puts =
+    let stored = three was.tables.live s.live.entries s.live.links s.live.kept long.0.counts in
     subst (λ (v : List ℕ). RecordedBy was bytes 0 (lent (tables p r q t n v) work listing answer)) (sym stored)
-    (RecordedBy.done long (subst (λ (v : List ℕ). Sized (tables p r q t n v)) stored sized) (λ o. only_one (puts o).1))
+    (RecordedBy.done long (subst (λ (v : List ℕ). Sized (tables p r q t n v)) stored sized)
+    (λ o. rw (ep, er, eq, et, en) (only_one (puts o).1)))

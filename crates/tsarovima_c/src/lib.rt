@@ -6,15 +6,14 @@
 
 #![tactic(auto)]
 
-ghost use Rattle.std.specs.Prelude.{◌≡◌, length, replicate};
+ghost use Rattle.std.specs.Prelude.{◌≡◌, length};
 ghost use Rattle.tsarovima_c.specs.Lent.{RunBy, Denies, Tables, tables, TableLengths, OpenedBy};
 ghost use Rattle.tsarovima_c.specs.Lent.{Lent, lent, RoomLengths, OpenedIfLong, RecordedBy, closing_bytes, TextBy};
 
 use headers::EIGHT;
 use texts::Text;
 use types::limits::{ENTRIES, LISTING, NODE_ROWS, ROWS, TRAIL, WORK};
-use types::state;
-use types::state::Live;
+use types::state::{self, Live, State};
 
 // What the record calls return.
 const DONE: u32 = 0;
@@ -29,16 +28,6 @@ pub fn tsarovima_job(job: &[u8], answers: &mut [u8], listing: &mut [u16]) -> u32
     ensures { RunBy job.now answers.old listing.old result answers.new listing.new }
 {
     headers::code(jobs::job(job, answers, listing))
-}
-
-fn clear(table: &mut [u16])
-    ensures { table.new ≡ replicate (length table.old) 0 }
-{
-    let mut i: usize = 0;
-    while i < table.len() {
-        table[i] = 0;
-        i += 1;
-    }
 }
 
 // Whether a table is not as long as 1,024 nodes need.
@@ -118,11 +107,11 @@ pub fn tsarovima_open(
     ) {
         return WRONG_LENGTH;
     }
-    clear(parent);
-    clear(rank);
-    clear(rows);
-    clear(trail);
-    clear(nodes);
+    parent.fill(0);
+    rank.fill(0);
+    rows.fill(0);
+    trail.fill(0);
+    nodes.fill(0);
     let opened = state::open(parent, rows);
     live[0] = opened.entries;
     live[1] = opened.links;
@@ -169,30 +158,23 @@ pub fn tsarovima_record(
     if wrong_room(work.len(), listing.len(), bytes.len(), answer.len()) {
         return WRONG_LENGTH;
     }
-    let entries = live[0];
-    let links = live[1];
-    let kept = live[2];
-    let then = runs::run(
+    let counts = Live {
+        entries: live[0],
+        links: live[1],
+        kept: live[2],
+    };
+    let mut state = State {
         parent,
         rank,
         rows,
         trail,
-        work,
         nodes,
-        listing,
-        bytes,
-        0,
-        answer,
-        Live {
-            entries,
-            links,
-            kept,
-        },
-        1,
-    );
-    live[0] = then.entries;
-    live[1] = then.links;
-    live[2] = then.kept;
+        live: counts,
+    };
+    runs::run(&mut state, work, listing, bytes, 0, answer, 1);
+    live[0] = state.live.entries;
+    live[1] = state.live.links;
+    live[2] = state.live.kept;
     DONE
 }
 

@@ -18,9 +18,9 @@ returns-then-word_of-gt-LARGEST_WORD c = λ o. offer_over_31 o c.args.n (λ smal
 proper : (c : Else-word_of-gt-LARGEST_WORD) → Proper c.args.n
 proper c = omega (arith, c.if-word_of-gt-LARGEST_WORD.false, c.word_of.ensures)
 
-pub offer-step-requires : goal.offer-step-requires
-offer-step-requires c =
-    record { by_index = (most_nodes, c.requires); regular = (c.from.ensures.1, subst Proper (sym c.from.ensures.0) (proper (goal.at.offer-step-requires c).Else-word_of-gt-LARGEST_WORD), pending_wide c.args.s.parent most_entries (2 * most_entries) (search rules) (omega arith)) }
+pub offer-answer-requires : goal.offer-answer-requires
+offer-answer-requires c =
+    record { by_index = (most_nodes, c.requires); regular = (c.from.ensures.1, subst Proper (sym c.from.ensures.0) (proper (goal.at.offer-answer-requires c).Else-word_of-gt-LARGEST_WORD), pending_wide c.args.s.parent most_entries (2 * most_entries) (search rules) (omega arith)) }
 
 pub returns : goal.returns
-returns c = λ o. same_offer c.from.ensures.0 (c.offer-step.ensures most_nodes o)
+returns c = λ o. same_offer c.from.ensures.0 (c.offer-answer.ensures.called most_nodes o)

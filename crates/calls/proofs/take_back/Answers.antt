@@ -3,4 +3,4 @@ use Rattle.types.specs.Limits.{most_nodes}
 use Rattle.calls.proofs.take_back.Goals as goal
 
 pub returns : goal.returns
-returns c = λ o. c.take_back-step.ensures most_nodes o
+returns c = λ o. c.take_back-answer.ensures.called most_nodes o

@@ -6,7 +6,8 @@ use native.Mathlib.Omega.{arith}
 use lib.ListN.{length, length-replicate}
 use Rattle.nodes.specs.declared.Node.{Node}
 use Rattle.types.specs.Limits.{longest_listing, most_entries, most_nodes, work_long}
-use Rattle.types.specs.States.{State, held}
+use Rattle.types.specs.States.{State}
+use Rattle.types.specs.Lent.{held_by}
 use Rattle.types.proofs.Begun.{opened_first}
 use Rattle.headers.specs.Header.{judged}
 use Rattle.headers.specs.declared.Outcome.TheVariants.{Done}
@@ -54,11 +55,11 @@ module _ (c : After-run) where
   listed = c.run.new.listed
 
   abbrev left : State
-  left = held c.run.new.parent c.run.new.rank c.run.new.rows c.run.new.trail c.run.new.nodes c.run.result
+  left = held_by c.run.new.state
 
   all-put : (kept : List Node) × Ran c.args.job.now ((length c.args.job.now - 16) / 8) c.args.answers.now then listed kept
   all-put =
-      ran {s' = left} (opened_first most_nodes most_entries (omega arith) (omega arith) c.open-live.ensures.0 c.open-live.ensures.1) c.clear.ensures c.run.ensures
+      ran {s' = left} (opened_first most_nodes most_entries (omega arith) (omega arith) c.open-live.ensures.0 c.open-live.ensures.1) c.clear.ensures c.run.ensures.puts
 
   listed_long : length listed ≡ longest_listing
   listed_long = c.run.auto.listed ∙ c.clear.auto.listed ∙ length-replicate {A = ℕ} longest_listing 0

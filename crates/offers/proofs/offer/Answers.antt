@@ -1,5 +1,6 @@
 -- `offers::offer` meets its contract: each way out is one of `Offering`'s.
 use mathlib.Core.Path.{◌≡◌, refl, ap, ◌∙◌, subst}
+use mathlib.Core.List.{List}
 use Prim.Native.Nat.{ℕ, ◌*◌, ◌<◌}
 use lib.ListN.{length}
 use Rattle.classes.specs.Table.{Table}
@@ -10,13 +11,14 @@ use Rattle.nodes.specs.Meant.{meant}
 use Rattle.types.specs.Answers.{Below}
 use Rattle.combinators.specs.Entered.{entered}
 use Rattle.nodes.specs.Kept.{node_width, row_numbers, source_at, target_at}
-use Rattle.types.specs.States.{State, held, Opened}
+use Rattle.std.specs.Prelude.{Result, ⊤}
+use Rattle.types.specs.States.{State, Opened}
+use Rattle.types.specs.Lent.{classes_of, held_by}
 use Rattle.combinators.specs.Entering.{Entering}
 use Rattle.types.specs.Applying.{row_written}
-use Rattle.offers.specs.RulesMet.{RulesMet, met_links}
+use Rattle.offers.specs.RulesMet.{RulesMet}
 use Rattle.nodes.specs.declared.arrow.Adds.{Adds}
 use Rattle.nodes.specs.declared.arrow.Arrow.{Arrow}
-use Rattle.offers.specs.declared.Met.{Met}
 use Rattle.types.proofs.Applies.{Applicable, meetable, clash_run, clash_marked}
 use Rattle.offers.proofs.Children.{second_child}
 use Rattle.types.proofs.Offering.{offer_full, row_there, offer_no_child, child_row, row_is, entries_fit, applicable, offer_refused, kept_fits, met_row, links_more, offer_kept}
@@ -25,27 +27,27 @@ use Rattle.offers.proofs.offer.Goals.{After-arrow_at-t, After-enter-entered, Aft
 
 -- the state that was lent
 abbrev was : Start → State
-was c = held c.args.parent.now c.args.rank.now c.args.rows.now c.args.trail.now c.args.nodes.now c.args.live
+was c = held_by c.args.state.now
 
 -- what is known past the two checks
 module _ (c : Else-not-children_below) where
   opened : Opened c.requires.by_index.0 (was (goal.at.Else-not-children_below c).Start)
   opened = c.requires.by_index.1
 
-  room : node_width * c.args.live.kept < length c.args.nodes.now
-  room = c.if-nodes-kept.false
+  room : node_width * c.args.state.now.live.kept < length c.args.state.now.nodes.now
+  room = c.if-state-kept.false
 
-  below : Below c.args.live.kept (node_of c.args.n)
+  below : Below c.args.state.now.live.kept (node_of c.args.n)
   below = c.children_below.ensures.0 c.if-not-children_below.false
 
 -- the row that the arrows read make is the node's
 module _ (two : After-arrow_at-t) where
   abbrev arrow-read : ℕ → Arrow
-  arrow-read i = arrow (source_at two.args.nodes.now i) (target_at two.args.nodes.now i)
+  arrow-read i = arrow (source_at two.args.state.now.nodes.now i) (target_at two.args.state.now.nodes.now i)
 
   -- the node with its children's arrows, as the code puts it together
   abbrev worked : Adds
-  worked = record { node = two.args.n; s = two.arrow_at-s.result; t = two.arrow_at-t.result; e = two.args.live.entries }
+  worked = record { node = two.args.n; s = two.arrow_at-s.result; t = two.arrow_at-t.result; e = two.args.state.now.live.entries }
 
   row-eq : {most : ℕ} (o : Opened most (was (goal.at.After-arrow_at-t two).Start)) → meant worked ≡ row_of o.program (node_of two.args.n)
   row-eq o =
@@ -61,26 +63,23 @@ module _ (two : After-arrow_at-t) where
 module _ (c : After-enter-entered) where
   abbrev entered-table : Table
   entered-table =
-      laid c.enter-entered.new.parent c.args.rank.now c.enter-entered.new.rows c.args.trail.now c.enter-entered.result.entries c.args.live.links
+      laid c.enter-entered.new.parent c.args.state.now.rank.now c.enter-entered.new.rows c.args.state.now.trail.now c.enter-entered.result.entries c.args.state.now.live.links
 
   enters : Entering (was (goal.at.After-enter-entered c).Start).classes (meant (worked (goal.at.After-enter-entered c).After-arrow_at-t)) c.enter-entered.result entered-table
-  enters = c.enter-entered.ensures c.args.rank.now c.args.trail.now (able (goal.at.After-enter-entered c).After-arrow_at-t).enterable
+  enters = c.enter-entered.ensures c.args.state.now.rank.now c.args.state.now.trail.now (able (goal.at.After-enter-entered c).After-arrow_at-t).enterable
 
 -- what joining its rules leaves, by the answer
 module _ (c : After-meet) where
-  abbrev left-with : Met → Table
-  left-with r = laid c.meet.new.parent c.meet.new.rank c.meet.new.rows c.meet.new.trail c.enter-entered.result.entries (met_links r)
-
-  met : (r : Met) → c.meet.result ≡ r → RulesMet (entered (was (goal.at.After-meet c).Start).classes (meant (worked (goal.at.After-meet c).After-arrow_at-t)).entries) (meant (worked (goal.at.After-meet c).After-arrow_at-t)).needs r (left-with r)
+  met : (r : Result ⊤ ℕ) → c.meet.result ≡ r → RulesMet (entered (was (goal.at.After-meet c).Start).classes (meant (worked (goal.at.After-meet c).After-arrow_at-t)).entries) (meant (worked (goal.at.After-meet c).After-arrow_at-t)).needs r (classes_of c.meet.new.state)
   met r is =
-      subst (λ (x : Met). RulesMet (entered (was (goal.at.After-meet c).Start).classes (meant (worked (goal.at.After-meet c).After-arrow_at-t)).entries) (meant (worked (goal.at.After-meet c).After-arrow_at-t)).needs x (left-with x)) is
-      (subst (λ (x : Table). RulesMet x (meant (worked (goal.at.After-meet c).After-arrow_at-t)).needs c.meet.result (left-with c.meet.result)) (enters (goal.at.After-meet c).After-enter-entered).is c.meet.ensures)
+      subst (λ (x : Result ⊤ ℕ). RulesMet (entered (was (goal.at.After-meet c).Start).classes (meant (worked (goal.at.After-meet c).After-arrow_at-t)).entries) (meant (worked (goal.at.After-meet c).After-arrow_at-t)).needs x (classes_of c.meet.new.state)) is
+      (subst (λ (x : Table). RulesMet x (meant (worked (goal.at.After-meet c).After-arrow_at-t)).needs c.meet.result (classes_of c.meet.new.state)) (enters (goal.at.After-meet c).After-enter-entered).is c.meet.ensures.met)
 
-pub returns-then-nodes-kept : goal.returns-then-nodes-kept
-returns-then-nodes-kept c = λ most o. offer_full o _ c.requires.regular.1 c.if-nodes-kept.true
+pub returns-then-state-kept-clause-called : goal.returns-then-state-kept-clause-called
+returns-then-state-kept-clause-called c = λ most o. offer_full o _ c.requires.regular.1 c.if-state-kept.true
 
-pub returns-then-not-children_below : goal.returns-then-not-children_below
-returns-then-not-children_below c = λ most o. offer_no_child o c.if-nodes-kept.false _ c.requires.regular.1 (c.children_below.ensures.1 c.if-not-children_below.true)
+pub returns-then-not-children_below-clause-called : goal.returns-then-not-children_below-clause-called
+returns-then-not-children_below-clause-called c = λ most o. offer_no_child o c.if-state-kept.false _ c.requires.regular.1 (c.children_below.ensures.1 c.if-not-children_below.true)
 
 pub arrow_at-s-requires : goal.arrow_at-s-requires
 arrow_at-s-requires c =
@@ -92,7 +91,7 @@ arrow_at-t-requires c =
 
 pub enter-entered-requires : goal.enter-entered-requires
 enter-entered-requires c = (
-  ((c.args.rank.now, c.args.trail.now, (able (goal.at.enter-entered-requires c).After-arrow_at-t).enterable), (able (goal.at.enter-entered-requires c).After-arrow_at-t).named, entries_fit (opened (goal.at.enter-entered-requires c).Else-not-children_below) (room (goal.at.enter-entered-requires c).Else-not-children_below) (node_of c.args.n) c.requires.regular.1 (below (goal.at.enter-entered-requires c).Else-not-children_below)),
+  ((c.args.state.now.rank.now, c.args.state.now.trail.now, (able (goal.at.enter-entered-requires c).After-arrow_at-t).enterable), (able (goal.at.enter-entered-requires c).After-arrow_at-t).named, entries_fit (opened (goal.at.enter-entered-requires c).Else-not-children_below) (room (goal.at.enter-entered-requires c).Else-not-children_below) (node_of c.args.n) c.requires.regular.1 (below (goal.at.enter-entered-requires c).Else-not-children_below)),
   c.requires.regular.1,
 )
 
@@ -101,31 +100,32 @@ meet-requires c =
     record { meetable = meetable (able (goal.at.meet-requires c).After-arrow_at-t) (entered-table (goal.at.meet-requires c).After-enter-entered) (enters (goal.at.meet-requires c).After-enter-entered).is; countable = ((entries_fit (opened (goal.at.meet-requires c).Else-not-children_below) (room (goal.at.meet-requires c).Else-not-children_below) (node_of c.args.n) c.requires.regular.1 (below (goal.at.meet-requires c).Else-not-children_below), c.requires.regular.1), (enters (goal.at.meet-requires c).After-enter-entered).left) }
 
 pub undo-requires : goal.undo-requires
-undo-requires c = let m = met (goal.at.undo-requires c).After-meet _ c.in-Clash.is in clash_marked (able (goal.at.undo-requires c).After-arrow_at-t) m.1
+undo-requires c = let m = met (goal.at.undo-requires c).After-meet _ c.in-Err.is in clash_marked (able (goal.at.undo-requires c).After-arrow_at-t) m.1
 
 pub write_row-requires : goal.write_row-requires
-write_row-requires c = (row_there (opened (goal.at.write_row-requires c).Else-not-children_below) (room (goal.at.write_row-requires c).Else-not-children_below), c.requires.regular.0)
+write_row-requires c = (rw c.meet.ensures.stays.0 (row_there (opened (goal.at.write_row-requires c).Else-not-children_below) (room (goal.at.write_row-requires c).Else-not-children_below)), c.requires.regular.0)
 
 pub overflow_sub-result : goal.overflow_sub-result
 overflow_sub-result c =
-    links_more (opened (goal.at.overflow_sub-result c).Else-not-children_below) (room (goal.at.overflow_sub-result c).Else-not-children_below) (node_of c.args.n) c.requires.regular.1 (below (goal.at.overflow_sub-result c).Else-not-children_below) (meant (worked (goal.at.overflow_sub-result c).After-arrow_at-t)) (row-eq (goal.at.overflow_sub-result c).After-arrow_at-t (opened (goal.at.overflow_sub-result c).Else-not-children_below)) (met (goal.at.overflow_sub-result c).After-meet _ c.in-All.is)
+    links_more (opened (goal.at.overflow_sub-result c).Else-not-children_below) (room (goal.at.overflow_sub-result c).Else-not-children_below) (node_of c.args.n) c.requires.regular.1 (below (goal.at.overflow_sub-result c).Else-not-children_below) (meant (worked (goal.at.overflow_sub-result c).After-arrow_at-t)) (row-eq (goal.at.overflow_sub-result c).After-arrow_at-t (opened (goal.at.overflow_sub-result c).Else-not-children_below)) (met (goal.at.overflow_sub-result c).After-meet _ c.in-Ok.is)
 
-pub overflow_add-result : goal.overflow_add-result
-overflow_add-result c = record { fits = kept_fits (opened (goal.at.overflow_add-result c).Else-not-children_below) (room (goal.at.overflow_add-result c).Else-not-children_below) (node_of c.args.n) c.requires.regular.1 (below (goal.at.overflow_add-result c).Else-not-children_below) }
+pub overflow_add-state : goal.overflow_add-state
+overflow_add-state c = record { fits = kept_fits (opened (goal.at.overflow_add-state c).Else-not-children_below) (room (goal.at.overflow_add-state c).Else-not-children_below) (node_of c.args.n) c.requires.regular.1 (below (goal.at.overflow_add-state c).Else-not-children_below) }
 
-pub returns-in-Clash : goal.returns-in-Clash
-returns-in-Clash c =
-    let stopped = met (goal.at.returns-in-Clash c).After-meet _ c.in-Clash.is in
-    let back = c.undo.ensures.given_back (was (goal.at.returns-in-Clash c).Start).classes (able (goal.at.returns-in-Clash c).After-arrow_at-t).enterable.made (clash_run (able (goal.at.returns-in-Clash c).After-arrow_at-t) stopped.1) refl in
-    λ most o. offer_refused o (room (goal.at.returns-in-Clash c).Else-not-children_below) (node_of c.args.n) c.requires.regular.1 (below (goal.at.returns-in-Clash c).Else-not-children_below) (meant (worked (goal.at.returns-in-Clash c).After-arrow_at-t)) (row-eq (goal.at.returns-in-Clash c).After-arrow_at-t o) back stopped.1 stopped.2
+pub returns-in-Err-clause-called : goal.returns-in-Err-clause-called
+returns-in-Err-clause-called c =
+    let stopped = met (goal.at.returns-in-Err-clause-called c).After-meet _ c.in-Err.is in
+    let back = c.undo.ensures.given_back (was (goal.at.returns-in-Err-clause-called c).Start).classes (able (goal.at.returns-in-Err-clause-called c).After-arrow_at-t).enterable.made (clash_run (able (goal.at.returns-in-Err-clause-called c).After-arrow_at-t) stopped.1) refl in
+    λ most o. rw c.meet.ensures.stays.0 (offer_refused o (room (goal.at.returns-in-Err-clause-called c).Else-not-children_below) (node_of c.args.n) c.requires.regular.1 (below (goal.at.returns-in-Err-clause-called c).Else-not-children_below) (meant (worked (goal.at.returns-in-Err-clause-called c).After-arrow_at-t)) (row-eq (goal.at.returns-in-Err-clause-called c).After-arrow_at-t o) back stopped.1 stopped.2)
 
-pub returns-in-All : goal.returns-in-All
-returns-in-All c =
-    let m = met (goal.at.returns-in-All c).After-meet _ c.in-All.is in
+pub returns-in-Ok-clause-called : goal.returns-in-Ok-clause-called
+returns-in-Ok-clause-called c =
+    let m = met (goal.at.returns-in-Ok-clause-called c).After-meet _ c.in-Ok.is in
     λ most o.
-    offer_kept o (room (goal.at.returns-in-All c).Else-not-children_below) (node_of c.args.n) c.requires.regular.1 (below (goal.at.returns-in-All c).Else-not-children_below)
-    (met_row o (room (goal.at.returns-in-All c).Else-not-children_below) (node_of c.args.n) c.requires.regular.1 (below (goal.at.returns-in-All c).Else-not-children_below) (meant (worked (goal.at.returns-in-All c).After-arrow_at-t)) (row-eq (goal.at.returns-in-All c).After-arrow_at-t o) m)
+    offer_kept o (room (goal.at.returns-in-Ok-clause-called c).Else-not-children_below) (node_of c.args.n) c.requires.regular.1 (below (goal.at.returns-in-Ok-clause-called c).Else-not-children_below)
+    (met_row o (room (goal.at.returns-in-Ok-clause-called c).Else-not-children_below) (node_of c.args.n) c.requires.regular.1 (below (goal.at.returns-in-Ok-clause-called c).Else-not-children_below) (meant (worked (goal.at.returns-in-Ok-clause-called c).After-arrow_at-t)) (row-eq (goal.at.returns-in-Ok-clause-called c).After-arrow_at-t o) m)
     (c.write_row.ensures
-    ∙ ap (λ (x : Arrow). row_written c.args.nodes.now c.args.live.kept (row_numbers (node_of c.args.n) x c.args.live.entries c.args.live.links)) (enters (goal.at.returns-in-All c).After-enter-entered).gives
-    ∙ ap (λ (x : Row). row_written c.args.nodes.now c.args.live.kept (row_numbers (node_of c.args.n) x.gives c.args.live.entries c.args.live.links)) (row-eq (goal.at.returns-in-All c).After-arrow_at-t o))
+    ∙ ap (λ (x : List ℕ). row_written x c.args.state.now.live.kept (row_numbers (node_of c.args.n) c.enter-entered.result.gives c.args.state.now.live.entries c.args.state.now.live.links)) c.meet.ensures.stays.0
+    ∙ ap (λ (x : Arrow). row_written c.args.state.now.nodes.now c.args.state.now.live.kept (row_numbers (node_of c.args.n) x c.args.state.now.live.entries c.args.state.now.live.links)) (enters (goal.at.returns-in-Ok-clause-called c).After-enter-entered).gives
+    ∙ ap (λ (x : Row). row_written c.args.state.now.nodes.now c.args.state.now.live.kept (row_numbers (node_of c.args.n) x.gives c.args.state.now.live.entries c.args.state.now.live.links)) (row-eq (goal.at.returns-in-Ok-clause-called c).After-arrow_at-t o))
     refl

@@ -32,23 +32,23 @@ bounds-bytes-from-in-Malformed c = omega (arith, c.requires.from_in_bounds.0)
 pub settle-requires-in-Malformed : goal.settle-requires-in-Malformed
 settle-requires-in-Malformed c = omega (arith, c.requires.from_in_bounds.1.numbers)
 
-pub returns-in-Offer : goal.returns-in-Offer
-returns-in-Offer c =
+pub returns-in-Offer-clause-put : goal.returns-in-Offer-clause-put
+returns-in-Offer-clause-put c =
     let other = offer_is_not_65 (subst (Asked _ _ _) c.node_at.ensures.0 (asked c.args.bytes.now c.args.from)) in
-    λ o. put_settled o other c.node_at.ensures.0 (offer_is_no_closing _) (c.offer.ensures most_nodes o)
+    λ o. put_settled o other c.node_at.ensures.0 (offer_is_no_closing _) (c.offer.ensures.called most_nodes o)
 
-pub returns-in-TakeBack : goal.returns-in-TakeBack
-returns-in-TakeBack c =
+pub returns-in-TakeBack-clause-put : goal.returns-in-TakeBack-clause-put
+returns-in-TakeBack-clause-put c =
     let is = asked_take_back (asked c.args.bytes.now c.args.from) (sym c.asked.ensures ∙ c.in-TakeBack.is) in
     let other = take_back_is_not_65 (subst (Asked _ _ _) is (asked c.args.bytes.now c.args.from)) in
-    λ o. put_settled o other (is ∙ ap TakeBack (sym c.first.ensures)) (take_back_is_no_closing _) (c.take_back.ensures most_nodes o)
+    λ o. put_settled o other (is ∙ ap TakeBack (sym c.first.ensures)) (take_back_is_no_closing _) (c.take_back.ensures.called most_nodes o)
 
-pub returns-in-Close : goal.returns-in-Close
-returns-in-Close c =
+pub returns-in-Close-clause-put : goal.returns-in-Close-clause-put
+returns-in-Close-clause-put c =
     let is = asked_close (asked c.args.bytes.now c.args.from) (sym c.asked.ensures ∙ c.in-Close.is) in
     λ o. (_, put_closing o is (c.close-answer.ensures most_nodes _ _ o), c.settle.ensures)
 
-pub returns-in-Malformed : goal.returns-in-Malformed
-returns-in-Malformed c =
+pub returns-in-Malformed-clause-put : goal.returns-in-Malformed-clause-put
+returns-in-Malformed-clause-put c =
     let is = asked_malformed (asked c.args.bytes.now c.args.from) (sym c.asked.ensures ∙ c.in-Malformed.is) in
     λ o. (_, put_malformed o is, c.settle-in-Malformed.ensures)

@@ -2,14 +2,14 @@
 use Rattle.runs.proofs.Leaving.{recorded}
 use Rattle.runs.proofs.put_bytes.Goals as goal
 
-pub put-step-requires : goal.put-step-requires
-put-step-requires c = record { opened = c.requires.opened; from_in_bounds = (c.requires.from_in_bounds.0, c.requires.room) }
+pub put-answer-requires : goal.put-answer-requires
+put-answer-requires c = record { opened = c.requires.opened; from_in_bounds = (c.requires.from_in_bounds.0, c.requires.room) }
 
 pub write-requires : goal.write-requires
 write-requires c = c.requires.from_in_bounds.1
 
-pub returns : goal.returns
-returns c =
+pub returns-clause-recorded : goal.returns-clause-recorded
+returns-clause-recorded c =
     λ o.
-    let told = c.put-step.ensures o in
+    let told = c.put-answer.ensures.put o in
     recorded o c.args.bytes.now c.args.from told.1 told.2 c.write.ensures

@@ -18,6 +18,10 @@ was c =
 sized : (c : Else-wrong_tables) → Sized (was c)
 sized c = c.wrong_tables.ensures.1 c.if-wrong_tables.false
 
+-- what `fill` asks of its value: a copy of 0 is 0
+zero : (y : ℕ) → y ≡ 0 → y ≡ 0
+zero y is = is
+
 -- a cleared table is as long as the first one's rows ask for
 same : {xs : List ℕ} {n m : ℕ} → xs ≡ replicate n 0 → n ≡ m → xs ≡ replicate m 0
 same is e = is ∙ ap (λ (k : ℕ). replicate k 0) e
@@ -32,8 +36,8 @@ open-opened-requires c =
       length x.parent,
       omega (arith, s.parents),
       omega (arith, s.parents),
-      c.clear.ensures,
-      same {n = length x.rows} {m = width * length x.parent} c.clear-3.ensures (omega (arith, s.parents, s.four_an_entry)),
+      c.fill.ensures.after zero,
+      same {n = length x.rows} {m = width * length x.parent} (c.fill-3.ensures.after zero) (omega (arith, s.parents, s.four_an_entry)),
     )
 
 pub bounds-live-0 : goal.bounds-live-0
@@ -48,7 +52,7 @@ bounds-live-2 c = simp length-set (omega (arith, (sized (goal.at.bounds-live-2 c
 pub returns : goal.returns
 returns c =
     let s = sized (goal.at.returns c).Else-wrong_tables in
-    opened_by s c.clear.ensures c.open-opened.ensures.0 c.open-opened.ensures.1 c.clear-2.ensures c.clear-4.ensures c.clear-5.ensures
+    opened_by s (c.fill.ensures.after zero) c.open-opened.ensures.0 c.open-opened.ensures.1 (c.fill-2.ensures.after zero) (c.fill-4.ensures.after zero) (c.fill-5.ensures.after zero)
     (record {
       parents = grind (arith, s.parents);
       ranks = grind (arith, s.ranks);

@@ -1,4 +1,5 @@
 -- `tsarovima_c::tsarovima_record` meets its contract: what putting one record promises, with the counts stored, or a length is wrong.
+use Rattle.std.proofs.Common.{rules}
 use native.Mathlib.Omega.{arith}
 use lib.ListN.{length-set}
 use Rattle.tsarovima_c.specs.Lent.{tables, Lent, lent, Long, RecordedBy}
@@ -29,9 +30,9 @@ bounds-live-1 c = omega (arith, (long (goal.at.bounds-live-1 c).Else-wrong_room)
 pub bounds-live-2 : goal.bounds-live-2
 bounds-live-2 c = omega (arith, (long (goal.at.bounds-live-2 c).Else-wrong_room).0.counts)
 
-pub run-then-requires : goal.run-then-requires
-run-then-requires c =
-    let h = long (goal.at.run-then-requires c).Else-wrong_room in
+pub run-requires : goal.run-requires
+run-requires c =
+    let h = long (goal.at.run-requires c).Else-wrong_room in
     let (sized, room) = h in
     record { opened = c.requires h; room = record { pairs = omega (arith, sized.parents, room.marks); marks = room.marks; numbers = room.numbers }; count_in_bounds = (omega (arith, room.asked), omega (arith, room.answered)) }
 
@@ -47,7 +48,7 @@ bounds-live-2-2 c = simp length-set (omega (arith, (long (goal.at.bounds-live-2-
 pub returns : goal.returns
 returns c =
     let h = long (goal.at.returns c).Else-wrong_room in
-    recorded_by h
+    recorded_by c.run.new.state h
     (record {
       parents = grind (arith, h.0.parents);
       ranks = grind (arith, h.0.ranks);
@@ -56,4 +57,4 @@ returns c =
       seven_a_node = grind (arith, h.0.seven_a_node);
       counts = simp length-set h.0.counts;
     })
-    c.run-then.ensures
+    (search rules) (search rules) (search rules) (search rules) (search rules) c.run.ensures.puts

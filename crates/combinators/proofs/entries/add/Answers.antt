@@ -1,4 +1,4 @@
--- `combinators::entries::add` meets its contract. A turn: its entry is there, and it is added, so the other answer never comes.
+-- `combinators::entries::add` meets its contract. A turn: its entry is there, and it is added.
 use mathlib.Core.Path.{◌≡◌, refl}
 use Prim.Native.Nat.{ℕ}
 use native.Mathlib.Omega.{arith}
@@ -17,12 +17,11 @@ then c n = part c.add.new.parent c.add.new.rows n c.args.links
 pub loop-b-init : goal.loop-b-init
 loop-b-init g c = adding_begins c.requires
 
-pub returns-in_default : goal.returns-in_default
-returns-in_default g c =
+pub unwrap-requires : goal.unwrap-requires
+unwrap-requires g c =
     let all : length c.args.bounds ≡ g.row.N = search rules in
-    let answer = adding_answer c.loop-b.invariant (rw all c.loop-b-test.true) (then (goal.at.returns-in_default g c).After-add) refl (λ rank trail. refl) c.add.ensures in
-    let z : ◌≡◌ {A = ℕ} 0 1 = cc in
-    absurd (omega arith)
+    let answer = adding_answer c.loop-b.invariant (rw all c.loop-b-test.true) (then (goal.at.unwrap-requires g c).After-add) refl (λ rank trail. refl) c.add.ensures in
+    rw answer (search rules)
 
 pub overflow_add-entries : goal.overflow_add-entries
 overflow_add-entries g c =

@@ -3,14 +3,15 @@ use mathlib.Core.Path.{◌≡◌, refl, ◌∙◌}
 use Prim.Native.Nat.{ℕ, ◌<◌}
 use native.Mathlib.Omega.{arith}
 use lib.ListN.{length}
-use Rattle.classes.specs.declared.context.Added.TheVariants.{Entry}
+use Rattle.std.proofs.Common.{rules}
+use Rattle.std.specs.Prelude.{Some}
 use Rattle.nodes.specs.Layout.{standing}
 use Rattle.combinators.specs.Entering.{Part, part}
 use Rattle.combinators.proofs.EachEntry.{adding_answer, adding_again}
 use Rattle.types.proofs.Stood.{standing_length}
 use Rattle.types.proofs.Opening.{opening_begins, opening_ends}
 use Rattle.types.proofs.state.open.Goals as goal
-use Rattle.types.proofs.state.open.Goals.{After-add, In_default}
+use Rattle.types.proofs.state.open.Goals.{After-add}
 
 -- a turn: its entry is there, and it is added
 module _ (c : After-add) where
@@ -20,48 +21,21 @@ module _ (c : After-add) where
   abbrev then : ℕ → Part
   then n = part c.add.new.parent c.add.new.rows n 0
 
-  answer : c.add.result ≡ Entry c.loop-i.i
+  answer : c.add.result ≡ Some c.loop-i.i
   answer = adding_answer c.loop-i.invariant.2 there then c.standing_bound.ensures (λ rank trail. refl) c.add.ensures
-
--- so the other answer never comes
-never : In_default → ⊥
-never c =
-    let a = answer (goal.at.In_default c).After-add in
-    let z : ◌≡◌ {A = ℕ} 0 1 = cc in omega arith
 
 pub loop-i-init : goal.loop-i-init
 loop-i-init c = (refl, refl, opening_begins c.requires.1 c.requires.2 c.requires.3 c.requires.4)
 
-pub standing_bound-requires : goal.standing_bound-requires
-standing_bound-requires c = c.loop-i-test.true
-
 pub add-requires : goal.add-requires
 add-requires c = (c.loop-i.invariant.2.room.0, c.loop-i.invariant.2.room.1, c.loop-i.invariant.2.room.2.made)
 
-pub shape_of-parent-in_default : goal.shape_of-parent-in_default
-shape_of-parent-in_default c = absurd (never c)
-
-pub shape_of-rows-in_default : goal.shape_of-rows-in_default
-shape_of-rows-in_default c = absurd (never c)
-
-pub returns-in_default : goal.returns-in_default
-returns-in_default c = absurd (never c)
-
-pub overflow_add-i : goal.overflow_add-i
-overflow_add-i c = omega (arith, c.loop-i-test.true)
-
-pub loop-i-smaller : goal.loop-i-smaller
-loop-i-smaller c = omega (arith, c.loop-i-test.true)
+pub unwrap-requires : goal.unwrap-requires
+unwrap-requires c = rw (answer (goal.at.unwrap-requires c).After-add) (search rules)
 
 pub loop-i-preserved : goal.loop-i-preserved
 loop-i-preserved c =
     (c.add.auto.parent ∙ c.loop-i.invariant.0, c.add.auto.rows ∙ c.loop-i.invariant.1, adding_again c.loop-i.invariant.2 (there (goal.at.loop-i-preserved c).After-add) (then (goal.at.loop-i-preserved c).After-add) c.standing_bound.ensures (λ rank trail. refl) c.add.ensures)
-
-pub shape_of-parent : goal.shape_of-parent
-shape_of-parent c = c.loop-i.invariant.0
-
-pub shape_of-rows : goal.shape_of-rows
-shape_of-rows c = c.loop-i.invariant.1
 
 pub returns : goal.returns
 returns c =
