@@ -16,7 +16,8 @@ use Rattle.classes.specs.Made.{Made}
 use Rattle.classes.specs.Made.Made.{joined}
 use Rattle.classes.specs.Promises.{verdict, made_links}
 use Rattle.classes.specs.Promises.Run.{here, joins}
-use Rattle.classes.specs.declared.context.Joined.{Joined}
+use Rattle.std.specs.Prelude.{Result}
+use Rattle.classes.specs.declared.context.Clashed.{Clashed}
 use Rattle.classes.specs.Forest.{Forest}
 use Rattle.classes.proofs.Laws.{made_good, run_forest}
 use Rattle.nodes.specs.Layout.{Numbered, says}
@@ -40,6 +41,12 @@ none_left t rs first (ℕ.suc n) l z = absurd (omega (arith, z))
 pub some_left : (t : Table) (rs : List Numbered) (first : Numbered) (n : ℕ) → Left t rs n first → (n ≡ 0 → ⊥) → (n ≡ length rs) × (first ≡ get_or rs 0 (says 0 0 0))
 some_left t rs first ℕ.zero l not = absurd (not refl)
 some_left t rs first (ℕ.suc n) l not = l
+
+-- where some are left, the first is at hand and the others are there
+pub left_there : (t : Table) (rs : List Numbered) (first : Numbered) (n i : ℕ) → Left t rs n first → i < n → (n ≡ length rs) × (i < length rs) × (first ≡ get_or rs 0 (says 0 0 0))
+left_there t rs first n i l h =
+    let some = some_left t rs first n l (λ (z : n ≡ 0). omega arith) in
+    (some.0, omega (arith, some.0), some.1)
 
 pub record Joins (t₀ : Table) (rs : List Numbered) (t : Table) (pending : List ℕ) (i : ℕ) : Type 0 where
   pub made : Made t
@@ -113,9 +120,9 @@ joins_end {rs = rs} {t = t} {i = i} j all =
     j.meets (subst (λ (l : List Numbered). Meets t l t) (sym (ap (λ (n : ℕ). drop n rs) end ∙ drop-length rs)) done)
 
 -- a join's table, with the links as the code counts them
-pub merges_as : (t : Table) (p r rows trail : List ℕ) {a b n : ℕ} {answer j : Joined} →
+pub merges_as : (t : Table) (p r rows trail : List ℕ) {a b n : ℕ} {answer j : Result ℕ Clashed} →
     Merges t (equal a b ∷ []) (verdict answer) (laid p r rows trail t.entries (t.links + made_links answer)) → n ≡ made_links answer → answer ≡ j →
     Merges t (equal a b ∷ []) (verdict j) (laid p r rows trail t.entries (t.links + n))
 merges_as t p r rows trail {a} {b} {n} {answer} {j} m made is =
-    subst (λ (x : Joined). Merges t (equal a b ∷ []) (verdict x) (laid p r rows trail t.entries (t.links + n))) is
+    subst (λ (x : Result ℕ Clashed). Merges t (equal a b ∷ []) (verdict x) (laid p r rows trail t.entries (t.links + n))) is
     (subst (λ (k : ℕ). Merges t (equal a b ∷ []) (verdict answer) (laid p r rows trail t.entries (t.links + k))) (sym made) m)

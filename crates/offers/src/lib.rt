@@ -3,9 +3,9 @@
 
 #![tactic(auto)]
 
-ghost use Rattle.std.specs.Prelude.{◌≡◌, true, false, ℕ, ◌+◌, ◌*◌, ◌≤◌, length, get_or};
+ghost use Rattle.std.specs.Prelude.{◌≡◌, true, false, ℕ, ◌+◌, ◌*◌, ◌≤◌, ◌<◌, length, get_or};
 ghost use Rattle.classes.specs.Promises.{made_links};
-ghost use Rattle.nodes.specs.Layout.{children, Proper};
+ghost use Rattle.nodes.specs.Layout.{says, children, Proper};
 ghost use Rattle.nodes.specs.Layout.{arrow as from_to};
 ghost use Rattle.nodes.specs.Coded.{node_of, Regular};
 ghost use Rattle.nodes.specs.Kept.{node_width, row_numbers, source_at, target_at};
@@ -19,13 +19,19 @@ ghost use Rattle.types.specs.Applying.{row_written, Meetable};
 ghost use Rattle.types.specs.Calls.{Called};
 ghost use Rattle.offers.specs.RulesMet.{RulesMet};
 
-use classes::context::Joined;
+use classes::context::Clashed;
 use classes::{Mark, context, undo};
 use nodes::Coded;
 use nodes::arrow::{Adds, Arrow, Rule};
 use nodes::kept::{ENTRIES_BEFORE, FIRST, KIND, LINKS_BEFORE, NODE, SECOND, SOURCE, TARGET};
 use types::Answer;
 use types::state::State;
+
+// A node's rule that clashes, by its number.
+#[derive(Clone, Copy, Debug, PartialEq, Eq)]
+struct Clash {
+    rule: u16,
+}
 
 // The first child, 0 where there is none. The second field is the second child, or 0.
 fn first_child(n: Coded) -> u16
@@ -40,13 +46,7 @@ fn children_below(n: Coded, next: u16) -> bool
     requires { Regular n }
     ensures { (result ≡ true → Below next (node_of n)) × (result ≡ false → Below next (node_of n) → ⊥) }
 {
-    if n.kind.arity() == 0 {
-        return true;
-    }
-    if next <= n.a {
-        return false;
-    }
-    n.b < next
+    n.kind.arity() == 0 || n.a < next && n.b < next
 }
 
 // The arrow of the node with this number, as its row has it.
@@ -76,36 +76,43 @@ fn write_row(nodes: &mut [u16], i: u16, n: Coded, gives: Arrow, before: Mark)
 }
 
 // The links that a join made, whatever its answer.
-fn links_made(j: Joined) -> u16
-    ensures { result ≡ made_links j }
+fn links_made(joined: Result<u16, Clashed>) -> u16
+    ensures { result ≡ made_links joined }
 {
-    match j {
-        Joined::Done(n) => n,
-        Joined::Clash(n) => n,
+    match joined {
+        Ok(links) | Err(Clashed { links }) => links,
     }
 }
 
-// Joins the rules that a row's entries left, `count` of them from `first` on, in order, and leaves at once with the number of the
-// first that clashes.
+// A row's i-th rule, of which the first is at hand.
+fn rule(row: Adds, first: Rule, i: u16) -> Rule
+    requires { Countable row × (i < length (meant row).needs) × (meant_rule first ≡ get_or (meant row).needs 0 (says 0 0 0)) }
+    ensures { meant_rule result ≡ get_or (meant row).needs i (says 0 0 0) }
+{
+    if i == 0 {
+        first
+    } else {
+        combinators::rule_at(row, i)
+    }
+}
+
+// Joins the rules that a row's entries left, `count` of them from `first` on, in order, and leaves at once with the first that
+// clashes.
 fn meet(
     state: &mut State<'_>,
     pending: &mut [u16],
     row: Adds,
     count: u16,
     first: Rule,
-) -> Result<(), u16>
+) -> Result<(), Clash>
     requires meetable { Meetable (classes_of state.old) pending.old (meant row).needs }
     requires countable { Countable row × Left (classes_of state.old) (meant row).needs count (meant_rule first) }
     ensures same_tables { SameTables state.old state.new }
     ensures stays { (state.new.nodes.now ≡ state.old.nodes.now) × (state.new.live.entries ≡ state.old.live.entries) }
     ensures met { RulesMet (classes_of state.old) (meant row).needs result (classes_of state.new) }
 {
-    if count == 0 {
-        return Ok(());
-    }
-    let mut i = 0;
-    let mut r = first;
-    loop {
+    for i in 0..count {
+        let next = rule(row, first, i);
         let now = Mark {
             entries: state.live.entries,
             links: state.live.links,
@@ -117,19 +124,16 @@ fn meet(
             state.trail,
             pending,
             now,
-            r.one,
-            r.other,
+            next.one,
+            next.other,
         );
-        state.live.links += links_made(joined);
-        let Joined::Done(_) = joined else {
-            return Err(r.number);
+        let made = links_made(joined);
+        state.live.links += made;
+        let Ok(_) = joined else {
+            return Err(Clash { rule: next.number });
         };
-        i += 1;
-        if count <= i {
-            return Ok(());
-        }
-        r = combinators::rule_at(row, i);
     }
+    Ok(())
 }
 
 // Offers a node: the checks in the order 3, 2, 4.
@@ -165,7 +169,7 @@ pub fn offer(state: &mut State<'_>, pending: &mut [u16], n: Coded) -> Answer
     state.live.entries = entered.entries;
     let gives = entered.gives;
     match meet(state, pending, row, entered.rules, entered.first) {
-        Err(rule) => {
+        Err(Clash { rule }) => {
             let now = Mark {
                 entries: state.live.entries,
                 links: state.live.links,

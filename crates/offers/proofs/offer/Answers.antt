@@ -16,6 +16,7 @@ use Rattle.types.specs.States.{State, Opened}
 use Rattle.types.specs.Lent.{classes_of, held_by}
 use Rattle.combinators.specs.Entering.{Entering}
 use Rattle.types.specs.Applying.{row_written}
+use Rattle.offers.specs.declared.Clash.{Clash}
 use Rattle.offers.specs.RulesMet.{RulesMet}
 use Rattle.nodes.specs.declared.arrow.Adds.{Adds}
 use Rattle.nodes.specs.declared.arrow.Arrow.{Arrow}
@@ -70,9 +71,9 @@ module _ (c : After-enter-entered) where
 
 -- what joining its rules leaves, by the answer
 module _ (c : After-meet) where
-  met : (r : Result ⊤ ℕ) → c.meet.result ≡ r → RulesMet (entered (was (goal.at.After-meet c).Start).classes (meant (worked (goal.at.After-meet c).After-arrow_at-t)).entries) (meant (worked (goal.at.After-meet c).After-arrow_at-t)).needs r (classes_of c.meet.new.state)
+  met : (r : Result ⊤ Clash) → c.meet.result ≡ r → RulesMet (entered (was (goal.at.After-meet c).Start).classes (meant (worked (goal.at.After-meet c).After-arrow_at-t)).entries) (meant (worked (goal.at.After-meet c).After-arrow_at-t)).needs r (classes_of c.meet.new.state)
   met r is =
-      subst (λ (x : Result ⊤ ℕ). RulesMet (entered (was (goal.at.After-meet c).Start).classes (meant (worked (goal.at.After-meet c).After-arrow_at-t)).entries) (meant (worked (goal.at.After-meet c).After-arrow_at-t)).needs x (classes_of c.meet.new.state)) is
+      subst (λ (x : Result ⊤ Clash). RulesMet (entered (was (goal.at.After-meet c).Start).classes (meant (worked (goal.at.After-meet c).After-arrow_at-t)).entries) (meant (worked (goal.at.After-meet c).After-arrow_at-t)).needs x (classes_of c.meet.new.state)) is
       (subst (λ (x : Table). RulesMet x (meant (worked (goal.at.After-meet c).After-arrow_at-t)).needs c.meet.result (classes_of c.meet.new.state)) (enters (goal.at.After-meet c).After-enter-entered).is c.meet.ensures.met)
 
 pub returns-then-state-kept-clause-called : goal.returns-then-state-kept-clause-called
