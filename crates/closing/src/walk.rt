@@ -8,7 +8,7 @@ ghost use Rattle.classes.specs.Turning.{Rooted};
 ghost use Rattle.classes.specs.Made.{Stands};
 ghost use Rattle.typing.specs.Types.{Ty};
 ghost use Rattle.closing.specs.Visiting.{Settled, VisitedBy};
-ghost use Rattle.closing.specs.Walking.{mark_at, top_of, opened, goes, seen_in, PartsBelow, Seeable, Steppable, Completed, Parted, Stepped};
+ghost use Rattle.closing.specs.Walking.{mark_at, top_of, opened, reached, seen_in, PartsBelow, Seeable, Steppable, Completed, Parted, Stepped};
 
 use super::numbering::{PRODUCT, Row, SUM, UNIT};
 use super::{WORK, numbering};
@@ -27,13 +27,13 @@ pub(super) const NUMBERED: u16 = 2;
 
 // A class that lies inside itself.
 #[derive(Clone, Copy, Debug, PartialEq, Eq)]
-pub struct Cycle;
+pub(super) struct Cycle;
 
 // How far a walk has come: how long the path is, and how many types there are.
 #[derive(Clone, Copy, Debug, PartialEq, Eq)]
-pub struct Goes {
-    pub depth: u16,
-    pub types: u16,
+struct Reached {
+    depth: u16,
+    types: u16,
 }
 
 // The bound that the class of r shows, its parts' representatives in place of its parts.
@@ -50,13 +50,13 @@ fn look(parent: &[u16], rows: &[u16], r: u16) -> Bound
 }
 
 // Opens a class: it is on the path now.
-fn open(work: &mut [u16], at: Goes, a: u16) -> Goes
+fn open(work: &mut [u16], at: Reached, a: u16) -> Reached
     requires { (4 * at.depth + 1 < length work.old) × (4 * a < length work.old) × (at.depth + 1 < 2 ^ 16) }
-    ensures { (work.new ≡ opened work.old at.depth a) × (result ≡ goes (at.depth + 1) at.types) }
+    ensures { (work.new ≡ opened work.old at.depth a) × (result ≡ reached (at.depth + 1) at.types) }
 {
     work[WORK * (a as usize)] = OPEN;
     work[WORK * (at.depth as usize) + PATH] = a;
-    Goes {
+    Reached {
         depth: at.depth + 1,
         types: at.types,
     }
@@ -67,17 +67,17 @@ fn complete(
     work: &mut [u16],
     listing: &mut [u16],
     entries: u16,
-    at: Goes,
+    at: Reached,
     top: u16,
     ty: Row,
-) -> Goes
+) -> Reached
     requires steppable { Steppable entries work.old listing.old at.depth at.types }
     requires top_lt_entries { top < entries }
     ensures { Completed entries work.old listing.old at.depth at.types top ty.kind ty.left ty.right (Ok result) work.new listing.new }
 {
     let t = numbering::number(work, listing, entries, at.types, ty);
     work[WORK * (top as usize)] = t + NUMBERED;
-    Goes {
+    Reached {
         depth: at.depth - 1,
         types: if t == at.types {
             at.types + 1
@@ -92,10 +92,10 @@ fn part(
     work: &mut [u16],
     listing: &mut [u16],
     entries: u16,
-    at: Goes,
+    at: Reached,
     top: u16,
     ty: Row,
-) -> Result<Goes, Cycle>
+) -> Result<Reached, Cycle>
     requires steppable { Steppable entries work.old listing.old at.depth at.types }
     requires top_lt_entries { (top < entries) × (ty.left < entries) × (ty.right < entries) }
     ensures { Parted entries work.old listing.old at.depth at.types top ty.kind ty.left ty.right result work.new listing.new }
@@ -129,8 +129,8 @@ fn step(
     work: &mut [u16],
     listing: &mut [u16],
     entries: u16,
-    at: Goes,
-) -> Result<Goes, Cycle>
+    at: Reached,
+) -> Result<Reached, Cycle>
     requires steppable { Steppable entries work.old listing.old at.depth at.types }
     requires fact { let top = top_of work.old at.depth in
         Seeable parent.now rows.now top × PartsBelow entries (seen_in parent.now rows.now top) }
@@ -161,8 +161,8 @@ fn step(
     }
 }
 
-// Numbers the class of a, which is not seen yet, and all that it is made of: then there are this many types. The caller has looked whether it is: a node's types
-// mostly have their numbers already, and looking is cheaper than the call.
+// Numbers the class of a, which is not seen yet, and all that it is made of, and answers how many types there are then. The caller
+// has looked whether it is seen: a node's types mostly have their numbers already, and looking is cheaper than the call.
 pub(super) fn visit(
     parent: &[u16],
     rows: &[u16],
@@ -183,7 +183,7 @@ pub(super) fn visit(
         → Settled t rules work.old listing.old count ts
         → VisitedBy t rules work.old listing.old count ts a result work.new listing.new }
 {
-    let start = Goes {
+    let start = Reached {
         depth: 0,
         types: count,
     };

@@ -5,14 +5,14 @@ use Prim.Native.Nat.{ℕ}
 use Rattle.classes.specs.declared.Bound.{Bound}
 use Rattle.closing.specs.Walking.{seen_in, top_of, PartsBelow, Stepped}
 use Rattle.closing.specs.declared.walk.Cycle.{Cycle}
-use Rattle.closing.specs.declared.walk.Goes.{Goes}
+use Rattle.closing.specs.declared.walk.Reached.{Reached}
 use Rattle.std.specs.Prelude.{Result}
 use Rattle.closing.proofs.walk.step.Goals as goal
 use Rattle.closing.proofs.walk.step.Goals.{After-look}
 
 -- what the class at the top shows, as it was looked at
 module _ (c : After-look) where
-  abbrev Left : Bound → Result Goes Cycle → List ℕ → List ℕ → Type 0
+  abbrev Left : Bound → Result Reached Cycle → List ℕ → List ℕ → Type 0
   Left b =
       Stepped c.args.entries c.args.work.now c.args.listing.now c.args.at.depth c.args.at.types (top_of c.args.work.now c.args.at.depth) b
 
@@ -20,7 +20,7 @@ module _ (c : After-look) where
   looked =
       seen_in c.args.parent.now c.args.rows.now (top_of c.args.work.now c.args.at.depth)
 
-  stepped : {b : Bound} (x : Result Goes Cycle) (w l : List ℕ) → c.look.result ≡ b → Left b x w l → Left looked x w l
+  stepped : {b : Bound} (x : Result Reached Cycle) (w l : List ℕ) → c.look.result ≡ b → Left b x w l → Left looked x w l
   stepped x w l e s = subst (λ (b : Bound). Left b x w l) (sym e ∙ c.look.ensures) s
 
   parts_below : {b : Bound} → c.look.result ≡ b → PartsBelow c.args.entries b

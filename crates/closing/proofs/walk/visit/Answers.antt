@@ -10,7 +10,7 @@ use Rattle.classes.specs.Made.{Stands}
 use Rattle.typing.specs.Types.{Ty}
 use Rattle.closing.specs.Walking.{path_in, opened}
 use Rattle.closing.specs.Visiting.{unseen, Settled}
-use Rattle.closing.specs.declared.walk.Goes.{Goes}
+use Rattle.closing.specs.declared.walk.Reached.{Reached}
 use Rattle.std.specs.Prelude.{Ok, Err}
 use Rattle.std.proofs.lemmas.Result.{err_from_is_err_and}
 use Rattle.classes.proofs.Laws.{made_good, made_rooted, root_live, is_row}
@@ -52,7 +52,7 @@ loop-at-init c = (
   (refl, refl),
   λ begun rank trail links rules ts₀ s q there fresh is. (
     ts₀,
-    subst₂ (λ (w : List ℕ) (g : Goes). Walking (laid c.args.parent.now rank c.args.rows.now trail c.args.entries links) rules begun c.args.listing.now c.args.count ts₀ (root_in c.args.parent.now c.args.a) w c.args.listing.now (path_in w g.depth) g.types ts₀)
+    subst₂ (λ (w : List ℕ) (g : Reached). Walking (laid c.args.parent.now rank c.args.rows.now trail c.args.entries links) rules begun c.args.listing.now c.args.count ts₀ (root_in c.args.parent.now c.args.a) w c.args.listing.now (path_in w g.depth) g.types ts₀)
         (sym is) (sym c.open-at.ensures.1) (walking_begins s q c.args.a there fresh (omega (arith, there))),
   ),
 )
