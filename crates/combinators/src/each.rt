@@ -11,7 +11,7 @@ ghost use Rattle.nodes.specs.declared.Node.TheVariants.{Iden, Unit, InjL, InjR, 
 ghost use Rattle.combinators.specs.Entering.{part, Room, Grown, Ready, Enters, without_rules, leaf, unary, binary};
 
 use super::Placed;
-use super::entries::add;
+use super::entries::{add, add_case};
 use classes::{Bound, union_bound};
 use nodes::arrow::{Arrow, Rule};
 
@@ -80,8 +80,7 @@ fn enter_without_rules<const N: usize>(
     }
 }
 
-// A case or a half of one: A, B, C, D at e to e + 3, A + B at e + 4, (A + B) × C at e + 5, and then the products that its children's
-// sources are. All its rules are left.
+// A case or a half of one: what both begin with, and then the products that its children's sources are. All its rules are left.
 fn enter_case<const N: usize>(
     parent: &mut [u16],
     rows: &mut [u16],
@@ -98,16 +97,7 @@ fn enter_case<const N: usize>(
         Grown was (case_entries e products.entry) is }
     ensures row { (result.gives ≡ arrow (e + 5) (e + 3)) × (result.rules ≡ rules) × (result.first ≡ first) }
 {
-    let sum = Bound::Sum(e, e + 1);
-    let source = Bound::Product(e + 4, e + 2);
-    let free = Bound::Free;
-    let six = add(
-        parent,
-        rows,
-        links,
-        e,
-        [free, free, free, free, sum, source],
-    );
+    let six = add_case(parent, rows, links, e);
     let entries = add(parent, rows, links, six, products);
     Placed {
         entries,

@@ -118,37 +118,6 @@ kind_asks kind a b = by_cases (dec_lt kind 17)
     let past : get_or nodes kind (other kind) ≡ other kind = get_or-eq_default nodes (other kind) {n = kind} (omega (arith, high, seventeen)) in
     subst (λ (f : Fields). Asked kind a b (f a b)) (sym past) (other_asks kind a b))
 
--- a record that offers has a kind of node: 1 to 16
-no_offer : misshapen ≡ offer → ⊥
-no_offer e = let z : ◌≡◌ {A = ℕ} 0 1 = cc in omega arith
-
-spare_offers : (field : ℕ) (r : Record) → asks (spare field r) ≡ offer → asks r ≡ offer
-spare_offers field r e = by_cases (ℕ_discrete field 0)
-    (λ h. ap asks (sym (if_pos (ℕ_discrete field 0) h r Malformed)) ∙ e)
-    (λ h. absurd (no_offer (ap asks (sym (if_neg (ℕ_discrete field 0) h r Malformed)) ∙ e)))
-
-other_offers : (kind a b : ℕ) → asks (other kind a b) ≡ offer → ⊥
-other_offers kind a b e = by_cases (ℕ_discrete kind 64)
-    (λ h. let no : take_back ≡ offer = spare_offers b (TakeBack a) (ap asks (sym (if_pos (ℕ_discrete kind 64) h _ _)) ∙ e) in let z : ◌≡◌ {A = ℕ} 0 1 = cc in omega arith)
-    (λ h. by_cases (ℕ_discrete kind 65)
-    (λ g.
-    let no : close ≡ offer = spare_offers b Close (spare_offers a (spare b Close) (ap asks (sym (if_neg (ℕ_discrete kind 64) h _ _ ∙ if_pos (ℕ_discrete kind 65) g _ _)) ∙ e)) in
-    let z : ◌≡◌ {A = ℕ} 0 1 = cc in
-    omega arith)
-    (λ g. no_offer (ap asks (sym (if_neg (ℕ_discrete kind 64) h _ _ ∙ if_neg (ℕ_discrete kind 65) g _ _)) ∙ e)))
-
-node_kind : (kind a b : ℕ) → asks (by_kind kind a b) ≡ offer → (kind ≡ 0 → ⊥) × (kind < 17)
-unfolding nodes
-node_kind kind a b e = (
-  λ zero. no_offer (rw zero at e),
-  by_cases (dec_lt kind 17) (λ low. low) (λ high. absurd (other_offers kind a b (ap (λ (f : Fields). asks (f a b)) (sym (get_or-eq_default nodes (other kind) {n = kind} (omega (arith, high, seventeen)))) ∙ e))),
-)
-
-pub kind_offered : (bytes : List ℕ) (i : ℕ) → asks (record_at bytes i) ≡ offer → (get_or bytes i 0 ≡ 0 → ⊥) × (get_or bytes i 0 < 17)
-kind_offered bytes i offered =
-    let inner = by_kind (get_or bytes i 0) (two_bytes bytes (i + 2)) (two_bytes bytes (i + 4)) in
-    node_kind (get_or bytes i 0) _ _ (spare_offers (two_bytes bytes (i + 6)) inner (spare_offers (get_or bytes (i + 1) 0) (spare (two_bytes bytes (i + 6)) inner) offered))
-
 pub asked : (bytes : List ℕ) (i : ℕ) → Asked (get_or bytes i 0) (two_bytes bytes (i + 2)) (two_bytes bytes (i + 4)) (record_at bytes i)
 asked bytes i =
     let kind = get_or bytes i 0 in

@@ -16,14 +16,14 @@ lent c = part c.args.parent.now c.args.rows.now c.args.e c.args.links
 abbrev six : {g : Over} → Start g → List Bound
 six c = case_entries c.args.e []
 
-pub add-six-requires : goal.add-six-requires
-add-six-requires g c =
-    (search rules, front (lent (goal.at.add-six-requires g c).Start) (six (goal.at.add-six-requires g c).Start) c.args.products c.requires.room)
+pub add_case-six-requires : goal.add_case-six-requires
+add_case-six-requires g c =
+    record { entries_bound = c.requires.entries_bound; room = front (lent (goal.at.add_case-six-requires g c).Start) (six (goal.at.add_case-six-requires g c).Start) c.args.products c.requires.room }
 
 pub add-entries-requires : goal.add-entries-requires
 add-entries-requires g c =
-    (search rules, rest (lent (goal.at.add-entries-requires g c).Start) (six (goal.at.add-entries-requires g c).Start) c.args.products _ c.add-six.ensures c.requires.room)
+    (search rules, rest (lent (goal.at.add-entries-requires g c).Start) (six (goal.at.add-entries-requires g c).Start) c.args.products _ c.add_case-six.ensures c.requires.room)
 
 pub returns-clause-entries : goal.returns-clause-entries
 returns-clause-entries g c =
-    both (lent (goal.at.returns-clause-entries g c).Start) (six (goal.at.returns-clause-entries g c).Start) c.args.products _ c.add-six.ensures _ c.add-entries.ensures
+    both (lent (goal.at.returns-clause-entries g c).Start) (six (goal.at.returns-clause-entries g c).Start) c.args.products _ c.add_case-six.ensures _ c.add-entries.ensures
