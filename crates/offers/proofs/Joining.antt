@@ -24,22 +24,13 @@ use Rattle.combinators.specs.Entered.{Meets}
 use Rattle.types.specs.States.{Stops}
 use Rattle.combinators.specs.Entered.Meets.{done, next}
 use Rattle.types.specs.States.Stops.{here as stops_here, later}
-use Rattle.combinators.specs.Entering.{Named, Left}
+use Rattle.combinators.specs.Entering.{Named}
 use Rattle.types.specs.Applying.{Meetable}
 
 get_or_mem : (rs : List Numbered) (i : ℕ) → i < length rs → Memᴰ (get_or rs i (says 0 0 0)) rs
 get_or_mem [] i h = absurd (omega arith)
 get_or_mem (r ∷ rs) ℕ.zero h = Memᴰ.head refl
 get_or_mem (r ∷ rs) (ℕ.suc i) h = Memᴰ.tail (get_or_mem rs i (omega arith))
-
--- what is left of the rules, by how many it is
-pub none_left : (t : Table) (rs : List Numbered) (first : Numbered) (n : ℕ) → Left t rs n first → n ≡ 0 → Meets t rs t
-none_left t rs first ℕ.zero l z = l
-none_left t rs first (ℕ.suc n) l z = absurd (omega (arith, z))
-
-pub some_left : (t : Table) (rs : List Numbered) (first : Numbered) (n : ℕ) → Left t rs n first → (n ≡ 0 → ⊥) → (n ≡ length rs) × (first ≡ get_or rs 0 (says 0 0 0))
-some_left t rs first ℕ.zero l not = absurd (not refl)
-some_left t rs first (ℕ.suc n) l not = l
 
 pub record Joins (t₀ : Table) (rs : List Numbered) (t : Table) (pending : List ℕ) (i : ℕ) : Type 0 where
   pub made : Made t

@@ -1,5 +1,5 @@
 -- `offers::children_below` meets its contract: the children stand in the fields, as many as the arity says.
-use mathlib.Core.Path.{◌≡◌, sym, ◌∙◌}
+use mathlib.Core.Path.{◌≡◌, ◌∙◌}
 use mathlib.Core.Bool.{true, false}
 use Prim.Native.Nat.{ℕ, ◌<◌}
 use native.Mathlib.Omega.{arith}
@@ -7,7 +7,7 @@ use lib.ListN.{length}
 use borrow.Author.Tests.{ltb-true, ltb-false}
 use Rattle.nodes.specs.Layout.{children}
 use Rattle.nodes.specs.Coded.{node_of, first_field}
-use Rattle.offers.proofs.Children.{none_below, first_past, both_below, second_past}
+use Rattle.offers.proofs.Children.{first_past, both_below, second_past}
 use Rattle.offers.proofs.children_below.Goals as goal
 use Rattle.offers.proofs.children_below.Goals.{Else-arity-eq0, Else-next-n}
 
@@ -24,9 +24,6 @@ some c none = c.if-arity-eq0.false (c.arity.ensures ∙ none)
 
 first_there : (c : Else-next-n) → first_field (node_of c.args.n) < c.args.next
 first_there c = rw (← c.requires.first) c.if-next-n.false
-
-pub returns-then-arity-eq0 : goal.returns-then-arity-eq0
-returns-then-arity-eq0 c = yes (none_below (node_of c.args.n) _ (sym c.arity.ensures ∙ c.if-arity-eq0.true))
 
 pub returns-then-next-n : goal.returns-then-next-n
 returns-then-next-n c =

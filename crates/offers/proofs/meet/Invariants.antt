@@ -17,7 +17,6 @@ invariant-loop-i l =
     × Joins (classes_of l.initial.state) (meant l.row).needs (classes_of l.state) l.pending l.i
     × (l.state.nodes.now ≡ l.initial.state.nodes.now)
     × (l.state.live.entries ≡ l.initial.state.live.entries)
-    × (length l.pending ≡ length l.initial.pending)
 
 abbrev pub decreases-loop-i : goal.decreases-loop-i
 decreases-loop-i l = l.count - l.i

@@ -32,9 +32,6 @@ never c =
 pub loop-i-init : goal.loop-i-init
 loop-i-init c = (refl, refl, opening_begins c.requires.1 c.requires.2 c.requires.3 c.requires.4)
 
-pub add-requires : goal.add-requires
-add-requires c = (c.loop-i.invariant.2.room.0, c.loop-i.invariant.2.room.1, c.loop-i.invariant.2.room.2.made)
-
 pub returns-in_default : goal.returns-in_default
 returns-in_default c = absurd (never c)
 

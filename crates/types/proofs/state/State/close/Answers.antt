@@ -23,20 +23,8 @@ pub close-requires : goal.close-requires
 close-requires c =
     record { by_index = (c.requires.by_index.1, c.requires.by_index.2, c.args.self.now.live.links, _, opened_stands c.requires.by_index.3); closable = closable c.requires.by_index.3 c.requires.entries_bound.0 c.requires.entries_bound.1 c.requires.entries_bound.2 }
 
-pub shape_of-work-in-Types : goal.shape_of-work-in-Types
-shape_of-work-in-Types c = c.close.auto.work
-
-pub shape_of-listed-in-Types : goal.shape_of-listed-in-Types
-shape_of-listed-in-Types c = c.close.auto.listing
-
 pub returns-in-Types : goal.returns-in-Types
 returns-in-Types c = λ most rank trail o. left (goal.at.returns-in-Types c).After-close o _ c.in-Types.is
-
-pub shape_of-work-in-Endless : goal.shape_of-work-in-Endless
-shape_of-work-in-Endless c = c.close.auto.work
-
-pub shape_of-listed-in-Endless : goal.shape_of-listed-in-Endless
-shape_of-listed-in-Endless c = c.close.auto.listing
 
 pub returns-in-Endless : goal.returns-in-Endless
 returns-in-Endless c = λ most rank trail o. left (goal.at.returns-in-Endless c).After-close o _ c.in-Endless.is
