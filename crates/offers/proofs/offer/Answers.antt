@@ -22,7 +22,7 @@ use Rattle.nodes.specs.declared.arrow.Adds.{Adds}
 use Rattle.nodes.specs.declared.arrow.Arrow.{Arrow}
 use Rattle.types.proofs.Applies.{Applicable, meetable, clash_run, clash_marked}
 use Rattle.offers.proofs.Children.{second_child}
-use Rattle.types.proofs.Offering.{offer_full, row_there, offer_no_child, child_row, row_is, entries_fit, applicable, offer_refused, kept_fits, met_row, links_more, offer_kept}
+use Rattle.types.proofs.Offering.{offer_full, offer_no_child, child_row, row_is, entries_fit, applicable, offer_refused, met_row, links_more, offer_kept}
 use Rattle.offers.proofs.offer.Goals as goal
 use Rattle.offers.proofs.offer.Goals.{After-arrow_at-t, After-enter-entered, After-meet, Else-not-children_below, Start}
 
@@ -103,15 +103,9 @@ meet-requires c =
 pub undo-requires : goal.undo-requires
 undo-requires c = let m = met (goal.at.undo-requires c).After-meet _ c.in-Err.is in clash_marked (able (goal.at.undo-requires c).After-arrow_at-t) m.1
 
-pub write_row-requires : goal.write_row-requires
-write_row-requires c = (rw c.meet.ensures.stays.0 (row_there (opened (goal.at.write_row-requires c).Else-not-children_below) (room (goal.at.write_row-requires c).Else-not-children_below)), c.requires.regular.0)
-
 pub overflow_sub-result : goal.overflow_sub-result
 overflow_sub-result c =
     links_more (opened (goal.at.overflow_sub-result c).Else-not-children_below) (room (goal.at.overflow_sub-result c).Else-not-children_below) (node_of c.args.n) c.requires.regular.1 (below (goal.at.overflow_sub-result c).Else-not-children_below) (meant (worked (goal.at.overflow_sub-result c).After-arrow_at-t)) (row-eq (goal.at.overflow_sub-result c).After-arrow_at-t (opened (goal.at.overflow_sub-result c).Else-not-children_below)) (met (goal.at.overflow_sub-result c).After-meet _ c.in-Ok.is)
-
-pub overflow_add-state : goal.overflow_add-state
-overflow_add-state c = record { fits = kept_fits (opened (goal.at.overflow_add-state c).Else-not-children_below) (room (goal.at.overflow_add-state c).Else-not-children_below) (node_of c.args.n) c.requires.regular.1 (below (goal.at.overflow_add-state c).Else-not-children_below) }
 
 pub returns-in-Err-clause-called : goal.returns-in-Err-clause-called
 returns-in-Err-clause-called c =

@@ -1,15 +1,10 @@
 -- `runs::put` meets its contract: what the core promises, by what the record asks.
 use mathlib.Core.Path.{sym, ap, ◌∙◌, subst}
-use native.Mathlib.Omega.{arith}
 use Rattle.types.specs.Limits.{most_nodes}
 use Rattle.nodes.specs.declared.Record.TheVariants.{TakeBack}
 use Rattle.nodes.proofs.Asked.{Asked, asked, asked_proper, asked_take_back, asked_close, asked_malformed}
 use Rattle.runs.proofs.Putting.{offer_is_no_closing, take_back_is_no_closing, offer_is_not_65, take_back_is_not_65, put_settled, put_closing, put_malformed, closing_room}
 use Rattle.runs.proofs.put.Goals as goal
-
-pub node_at-requires : goal.node_at-requires
-node_at-requires c =
-    (c.requires.from_in_bounds.0, sym c.asked.ensures ∙ c.in-Offer.is)
 
 pub offer-requires : goal.offer-requires
 offer-requires c =
@@ -18,19 +13,6 @@ offer-requires c =
 pub close-answer-requires : goal.close-answer-requires
 close-answer-requires c =
     record { by_index = (most_nodes, _, _, c.requires.opened); entries_bound = closing_room c.requires.opened c.requires.from_in_bounds.1 }
-
-pub bounds-bytes-from : goal.bounds-bytes-from
-bounds-bytes-from c = omega (arith, c.requires.from_in_bounds.0)
-
-pub settle-requires : goal.settle-requires
-settle-requires c =
-    omega (arith, c.requires.from_in_bounds.1.numbers, c.close-answer.auto.listed)
-
-pub bounds-bytes-from-in-Malformed : goal.bounds-bytes-from-in-Malformed
-bounds-bytes-from-in-Malformed c = omega (arith, c.requires.from_in_bounds.0)
-
-pub settle-requires-in-Malformed : goal.settle-requires-in-Malformed
-settle-requires-in-Malformed c = omega (arith, c.requires.from_in_bounds.1.numbers)
 
 pub returns-in-Offer-clause-put : goal.returns-in-Offer-clause-put
 returns-in-Offer-clause-put c =

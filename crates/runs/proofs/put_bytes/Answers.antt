@@ -2,12 +2,6 @@
 use Rattle.runs.proofs.Leaving.{recorded}
 use Rattle.runs.proofs.put_bytes.Goals as goal
 
-pub put-answer-requires : goal.put-answer-requires
-put-answer-requires c = record { opened = c.requires.opened; from_in_bounds = (c.requires.from_in_bounds.0, c.requires.room) }
-
-pub write-requires : goal.write-requires
-write-requires c = c.requires.from_in_bounds.1
-
 pub returns-clause-recorded : goal.returns-clause-recorded
 returns-clause-recorded c =
     λ o.

@@ -17,10 +17,6 @@ returns-then-kept-to-2-clause-called c most o = takes_none o _ c.if-kept-to-2.tr
 pub undo-requires : goal.undo-requires
 undo-requires c = row_marked c.requires.1 c.args.to (less (goal.at.undo-requires c).Else-kept-to-2)
 
-pub clear_rows-requires : goal.clear_rows-requires
-clear_rows-requires c =
-    omega (arith, less (goal.at.clear_rows-requires c).Else-kept-to-2, c.requires.1.limits.node_rows, c.requires.1.fits)
-
 pub returns-clause-called : goal.returns-clause-called
 returns-clause-called c most o =
     takes_back o c.args.to (less (goal.at.returns-clause-called c).Else-kept-to-2) c.undo.ensures c.clear_rows.ensures
