@@ -22,9 +22,8 @@ use Rattle.types.specs.declared.Answer.{Answer}
 use Rattle.types.specs.declared.Answer.TheVariants.{Kept}
 use Rattle.types.proofs.Demand3.{kept_nodes_are_kept_again as kept_again}
 use Rattle.types.proofs.Once.{answered_once}
-use Rattle.headers.specs.Header.{count}
-use Rattle.headers.specs.declared.Outcome.{Outcome}
-use Rattle.headers.specs.declared.Outcome.TheVariants.{Done}
+use Rattle.std.specs.Prelude.{Ok}
+use Rattle.headers.specs.Header.{count, Outcome}
 use Rattle.runs.specs.Leaving.{over}
 use Rattle.jobs.specs.Jobs.{records, Job}
 use Rattle.calls.specs.Values.{state_of}
@@ -49,7 +48,7 @@ use Rattle.demands.proofs.JobAnswers.{later_bytes, later_listing}
 
 -- "A refused job writes nothing to the lent buffers"
 pub a_refused_job_writes_nothing : {job answers listing answers' listing' : List ℕ} {r : Outcome} →
-    Job job answers listing r answers' listing' → (r ≡ Done → ⊥) → (answers' ≡ answers) × (listing' ≡ listing)
+    Job job answers listing r answers' listing' → (r ≡ Ok tt → ⊥) → (answers' ≡ answers) × (listing' ≡ listing)
 a_refused_job_writes_nothing = refused_job
 
 pub a_hosts_refused_job_writes_nothing : {job answers listing answers' listing' : List ℕ} {r : ℕ} →
@@ -159,9 +158,9 @@ host_tables_answer_as_fresh = demand_3_for_hosts
 -- that first offers the nodes still kept
 module _ {job answers listing answers₁ listing₁ job' answers' listing' answers₂ listing₂ : List ℕ}
     (rs later : List Record) (kept : List Node)
-    (one : Job job answers listing Done answers₁ listing₁) (of_one : records job (count job) ≡ rs ++ later)
+    (one : Job job answers listing (Ok tt) answers₁ listing₁) (of_one : records job (count job) ≡ rs ++ later)
     (still : StillKept most_nodes rs kept)
-    (two : Job job' answers' listing' Done answers₂ listing₂)
+    (two : Job job' answers' listing' (Ok tt) answers₂ listing₂)
     (of_two : records job' (count job') ≡ offers kept ++ later) where
   pub a_jobs_later_answers_are_as_fresh :
       answers_from (length rs) (length later) answers₁ ≡ answers_from (length (offers kept)) (length later) answers₂

@@ -16,8 +16,8 @@ use Rattle.types.specs.declared.Answer.{Answer}
 use Rattle.types.proofs.Demand3.{later_answers_are_a_fresh_states}
 use Rattle.types.proofs.Once.{runs_once}
 use Rattle.formats.specs.Bytes.{answer_bytes, all_bytes}
+use Rattle.std.specs.Prelude.{Ok}
 use Rattle.headers.specs.Header.{count}
-use Rattle.headers.specs.declared.Outcome.TheVariants.{Done}
 use Rattle.runs.specs.Leaving.{or_none, over}
 use Rattle.jobs.specs.Jobs.{place, records, shown, Job}
 use Rattle.demands.specs.Words.{answers_from, ClosesLast}
@@ -122,7 +122,7 @@ record Wrote (job : List ℕ) (rs later : List Record) (listing answers' listing
       listing' ≡ over (or_none (get_or parts.listed_late (length later - 1) [])) listing
 
 wrote : {job answers listing answers' listing' : List ℕ} (rs later : List Record) →
-    Job job answers listing Done answers' listing' → records job (count job) ≡ rs ++ later →
+    Job job answers listing (Ok tt) answers' listing' → records job (count job) ≡ rs ++ later →
     Wrote job rs later listing answers' listing'
 wrote rs later (Job.refused is not) e = absurd (not refl)
 wrote {job} {answers} {listing} rs later (Job.done {given = given} {listings = listings} {last = last} is runs) e =
@@ -150,9 +150,9 @@ wrote {job} {answers} {listing} rs later (Job.done {given = given} {listings = l
 -- the later records of two jobs, of which the second first offers the nodes that are still kept in the first
 module _ {job answers listing answers₁ listing₁ job' answers' listing' answers₂ listing₂ : List ℕ}
     (rs later : List Record) (kept : List Node)
-    (one : Job job answers listing Done answers₁ listing₁) (of_one : records job (count job) ≡ rs ++ later)
+    (one : Job job answers listing (Ok tt) answers₁ listing₁) (of_one : records job (count job) ≡ rs ++ later)
     (still : StillKept most_nodes rs kept)
-    (two : Job job' answers' listing' Done answers₂ listing₂)
+    (two : Job job' answers' listing' (Ok tt) answers₂ listing₂)
     (of_two : records job' (count job') ≡ offers kept ++ later) where
   w : Wrote job rs later listing answers₁ listing₁
   w = wrote rs later one of_one

@@ -15,9 +15,8 @@ use Rattle.types.specs.declared.Answer.{Answer}
 use Rattle.types.proofs.Fixed.{same_nodes_leave_the_state}
 use Rattle.calls.specs.Values.{state_of}
 use Rattle.calls.specs.declared.Owned.{Owned as Value}
-use Rattle.headers.specs.Header.{code_of}
-use Rattle.headers.specs.declared.Outcome.{Outcome}
-use Rattle.headers.specs.declared.Outcome.TheVariants.{Done}
+use Rattle.std.specs.Prelude.{Ok}
+use Rattle.headers.specs.Header.{Outcome, code_of}
 use Rattle.jobs.specs.Jobs.{Job}
 use Rattle.tsarovima_c.specs.Lent.{RunBy, Lent, OpenedIfLong, RecordedBy}
 use Rattle.tsarovima_c.proofs.Once.{same_tables}
@@ -27,7 +26,7 @@ use Rattle.demands.proofs.Meanings.{same_value}
 
 -- a job
 pub refused_job : {job answers listing answers' listing' : List ℕ} {r : Outcome} →
-    Job job answers listing r answers' listing' → (r ≡ Done → ⊥) →
+    Job job answers listing r answers' listing' → (r ≡ Ok tt → ⊥) →
     (answers' ≡ answers) × (listing' ≡ listing)
 refused_job (Job.refused is not) other = (refl, refl)
 refused_job (Job.done is runs) other = absurd (other refl)

@@ -9,12 +9,10 @@ use types::Answer;
 
 const CLOSING: u8 = 65;
 
-// Where the listing's numbers stand.
+// A listing begins with how many nodes and types it has, and where the types and the arrows stand. This one has neither.
+const NO_LISTING: [u16; 4] = [0, 0, 4, 4];
+
 const NODES: usize = 0;
-
-const TYPES: usize = 1;
-
-const TYPES_AT: usize = 2;
 
 const ARROWS_AT: usize = 3;
 
@@ -23,26 +21,13 @@ pub fn clear(listed: &mut [u16])
     requires { 4 ≤ length listed.old }
     ensures { listed.new ≡ no_listing ++ drop 4 listed.old }
 {
-    listed[NODES] = 0;
-    listed[TYPES] = 0;
-    listed[TYPES_AT] = 4;
-    listed[ARROWS_AT] = 4;
+    listed[..4].copy_from_slice(&NO_LISTING);
 }
 
 fn found_types(answer: Answer) -> bool
     ensures { result ≡ found_types answer }
 {
-    match answer {
-        Answer::Kept(_, _) => false,
-        Answer::TakenBack(_) => false,
-        Answer::Closed(_, _) => true,
-        Answer::Malformed => false,
-        Answer::Full => false,
-        Answer::NoChild => false,
-        Answer::Clashes(_) => false,
-        Answer::Endless(_) => false,
-        Answer::TooFar(_) => false,
-    }
+    matches!(answer, Answer::Closed(_, _))
 }
 
 // A record of kind 65 that found no types leaves no listing; every other record leaves what is listed.
@@ -50,30 +35,16 @@ pub fn settle(listed: &mut [u16], kind: u8, answer: Answer)
     requires { 4 ≤ length listed.old }
     ensures { listed.new ≡ settled kind answer listed.old }
 {
-    if kind != CLOSING {
-        return;
+    if kind == CLOSING && !found_types(answer) {
+        clear(listed);
     }
-    if found_types(answer) {
-        return;
-    }
-    clear(listed);
 }
 
-fn end_at(arrows: u16, nodes: u16) -> usize
-    ensures { result ≡ arrows + 2 * nodes }
-{
-    (arrows as usize) + 2 * (nodes as usize)
-}
-
-// Hands over what is listed.
+// Hands over what is listed: up to the arrows, and two numbers for each node.
 pub fn show(listed: &[u16], listing: &mut [u16])
     requires { (4 ≤ length listed.now) × (end_of listed.now ≤ length listed.now) × (end_of listed.now ≤ length listing.old) }
     ensures { listing.new ≡ take (end_of listed.now) listed.now ++ drop (end_of listed.now) listing.old }
 {
-    let end = end_at(listed[ARROWS_AT], listed[NODES]);
-    let mut i: usize = 0;
-    while i < end {
-        listing[i] = listed[i];
-        i += 1;
-    }
+    let end = (listed[ARROWS_AT] as usize) + 2 * (listed[NODES] as usize);
+    listing[..end].copy_from_slice(&listed[..end]);
 }

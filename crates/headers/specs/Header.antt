@@ -1,10 +1,10 @@
 -- A job's header and its refusals: document 01, "Job and listing".
-use Rattle.std.specs.Prelude.{List, ℕ, ◌+◌, ◌*◌, length, get_or}
+use Rattle.std.specs.Prelude.{List, ℕ, ◌+◌, ◌*◌, length, get_or, Result, Ok, Err}
 use Rattle.std.proofs.Math.Logic.{ite}
 use Rattle.std.proofs.Math.Decide.{ℕ_discrete, dec_le}
 use Rattle.types.specs.Limits.{longest_listing}
-use Rattle.headers.specs.declared.Outcome.{Outcome}
-use Rattle.headers.specs.declared.Outcome.TheVariants.{Done, TooShort, BadFormat, TooMany, BadOffset, BadLength, AnswersShort, ListingShort}
+use Rattle.headers.specs.declared.Refusal.{Refusal}
+use Rattle.headers.specs.declared.Refusal.TheVariants.{TooShort, BadFormat, TooMany, BadOffset, BadLength, AnswersShort, ListingShort}
 
 -- a four-byte number, little-endian, at an offset
 abbrev pub four_bytes : List ℕ → ℕ → ℕ
@@ -23,9 +23,13 @@ offset job = four_bytes job 8
 abbrev pub total : List ℕ → ℕ
 total job = four_bytes job 12
 
+-- what becomes of a job: it is run, or refused
+abbrev pub Outcome : Type 0
+Outcome = Result (Unit {0}) Refusal
+
 -- refused where the test fails; else the next test
-abbrev pub needs : {P : Type 0} → Dec P → Outcome → Outcome → Outcome
-needs test refusal next = ite test next refusal
+abbrev pub needs : {P : Type 0} → Dec P → Refusal → Outcome → Outcome
+needs test refusal next = ite test next (Err refusal)
 
 -- what becomes of a job, for buffers of so many bytes and numbers: the tests in their order
 abbrev pub judged : List ℕ → ℕ → ℕ → Outcome
@@ -38,15 +42,19 @@ judged job answers listing =
     (needs (ℕ_discrete (length job) (16 + 8 * count job)) BadLength
     (needs (dec_le (8 * count job) answers) AnswersShort
     (needs (dec_le longest_listing listing) ListingShort
-    Done)))))))
+    (Ok tt))))))))
 
--- document 01's number for each
+-- document 01's number for each refusal
+abbrev pub number_of : Refusal → ℕ
+number_of TooShort = 16
+number_of BadFormat = 17
+number_of TooMany = 18
+number_of BadOffset = 19
+number_of BadLength = 20
+number_of AnswersShort = 21
+number_of ListingShort = 22
+
+-- and for each outcome
 abbrev pub code_of : Outcome → ℕ
-code_of Done = 0
-code_of TooShort = 16
-code_of BadFormat = 17
-code_of TooMany = 18
-code_of BadOffset = 19
-code_of BadLength = 20
-code_of AnswersShort = 21
-code_of ListingShort = 22
+code_of (Ok done) = 0
+code_of (Err refusal) = number_of refusal

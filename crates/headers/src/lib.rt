@@ -4,7 +4,7 @@
 #![tactic(auto)]
 
 ghost use Rattle.std.specs.Prelude.{◌≡◌, ◌+◌, ◌*◌, ◌≤◌, length};
-ghost use Rattle.headers.specs.Header.{four_bytes, judged, code_of};
+ghost use Rattle.headers.specs.Header.{four_bytes, judged, number_of, code_of};
 
 use types::limits::LISTING;
 
@@ -24,10 +24,9 @@ const OFFSET: usize = 8;
 
 const TOTAL: usize = 12;
 
-// What becomes of a job.
-#[derive(Clone, Copy)]
-pub enum Outcome {
-    Done,
+// Why a job is not run.
+#[derive(Clone, Copy, Debug, PartialEq, Eq)]
+pub enum Refusal {
     TooShort,
     BadFormat,
     TooMany,
@@ -37,26 +36,31 @@ pub enum Outcome {
     ListingShort,
 }
 
-// Document 01's number.
-pub fn code(outcome: Outcome) -> u32
-    ensures { result ≡ code_of outcome }
-{
-    match outcome {
-        Outcome::Done => 0,
-        Outcome::TooShort => 16,
-        Outcome::BadFormat => 17,
-        Outcome::TooMany => 18,
-        Outcome::BadOffset => 19,
-        Outcome::BadLength => 20,
-        Outcome::AnswersShort => 21,
-        Outcome::ListingShort => 22,
+// Document 01's number of a refusal.
+impl From<Refusal> for u32 {
+    ghost from_gives = { λ refusal n. n ≡ number_of refusal };
+
+    fn from(refusal: Refusal) -> u32 {
+        match refusal {
+            Refusal::TooShort => 16,
+            Refusal::BadFormat => 17,
+            Refusal::TooMany => 18,
+            Refusal::BadOffset => 19,
+            Refusal::BadLength => 20,
+            Refusal::AnswersShort => 21,
+            Refusal::ListingShort => 22,
+        }
     }
 }
 
-fn four_bytes(b0: u8, b1: u8, b2: u8, b3: u8) -> u32
-    ensures { result ≡ b0 + 256 * b1 + 65536 * b2 + 16777216 * b3 }
+// Document 01's number of what becomes of a job: 0 where it is run.
+pub fn code(outcome: Result<(), Refusal>) -> u32
+    ensures { result ≡ code_of outcome }
 {
-    (b0 as u32) + 256 * (b1 as u32) + 65536 * (b2 as u32) + 16777216 * (b3 as u32)
+    match outcome {
+        Ok(()) => 0,
+        Err(refusal) => u32::from(refusal),
+    }
 }
 
 // The four-byte number, little-endian, at a place.
@@ -64,38 +68,36 @@ fn number_at(bytes: &[u8], at: usize) -> u32
     requires { at + 4 ≤ length bytes.now }
     ensures { result ≡ four_bytes bytes.now at }
 {
-    four_bytes(bytes[at], bytes[at + 1], bytes[at + 2], bytes[at + 3])
+    u32::from_le_bytes([bytes[at], bytes[at + 1], bytes[at + 2], bytes[at + 3]])
 }
 
 // Whether a job can be run with buffers of these lengths: the checks in the order 16 to 22.
-pub fn judge(job: &[u8], answers: usize, listing: usize) -> Outcome
+pub fn judge(job: &[u8], answers: usize, listing: usize) -> Result<(), Refusal>
     ensures { result ≡ judged job.now answers listing }
 {
     if job.len() < HEADER {
-        return Outcome::TooShort;
+        return Err(Refusal::TooShort);
     }
     if number_at(job, 0) != FORMAT {
-        return Outcome::BadFormat;
+        return Err(Refusal::BadFormat);
     }
     let count = number_at(job, COUNT);
     if MOST_RECORDS < count {
-        return Outcome::TooMany;
+        return Err(Refusal::TooMany);
     }
     if number_at(job, OFFSET) as usize != HEADER {
-        return Outcome::BadOffset;
+        return Err(Refusal::BadOffset);
     }
     let records = EIGHT * (count as usize);
-    if number_at(job, TOTAL) as usize != HEADER + records {
-        return Outcome::BadLength;
-    }
-    if job.len() != HEADER + records {
-        return Outcome::BadLength;
+    let total = HEADER + records;
+    if number_at(job, TOTAL) as usize != total || job.len() != total {
+        return Err(Refusal::BadLength);
     }
     if answers < records {
-        return Outcome::AnswersShort;
+        return Err(Refusal::AnswersShort);
     }
     if listing < LISTING {
-        return Outcome::ListingShort;
+        return Err(Refusal::ListingShort);
     }
-    Outcome::Done
+    Ok(())
 }

@@ -6,18 +6,15 @@
 ghost use Rattle.jobs.specs.Jobs.{Job};
 
 use formats::listing;
-use headers::{EIGHT, HEADER, Outcome};
+use headers::{EIGHT, HEADER, Refusal};
 use types::limits::{ENTRIES, LISTING, NODE_ROWS, ROWS, TRAIL, WORK};
 use types::state::{self, State};
 
 // Runs a job, or refuses it and leaves both buffers as they are.
-pub fn job(job: &[u8], answers: &mut [u8], listing: &mut [u16]) -> Outcome
+pub fn job(job: &[u8], answers: &mut [u8], listing: &mut [u16]) -> Result<(), Refusal>
     ensures { Job job.now answers.old listing.old result answers.new listing.new }
 {
-    let outcome = headers::judge(job, answers.len(), listing.len());
-    let Outcome::Done = outcome else {
-        return outcome;
-    };
+    headers::judge(job, answers.len(), listing.len())?;
     let mut parent = [0u16; ENTRIES];
     let mut rank = [0u16; ENTRIES];
     let mut rows = [0u16; ROWS];
@@ -45,5 +42,5 @@ pub fn job(job: &[u8], answers: &mut [u8], listing: &mut [u16]) -> Outcome
         (job.len() - HEADER) / EIGHT,
     );
     listing::show(&listed, listing);
-    Outcome::Done
+    Ok(())
 }

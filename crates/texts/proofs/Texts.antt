@@ -8,16 +8,17 @@ use lib.ListN.{length}
 use Rattle.texts.specs.Texts.{text, longest, AtFront, Written}
 use Rattle.texts.specs.Texts.AtFront.{fits, no_room}
 use Rattle.texts.specs.Texts.Written.{written, no_rule}
-use Rattle.texts.specs.declared.Text.{Text}
+use Rattle.std.specs.Prelude.{Result}
+use Rattle.texts.specs.declared.Unwritten.{Unwritten}
 
-at_front_once : {words out out₁ out₂ : List ℕ} {r₁ r₂ : Text} → AtFront words out r₁ out₁ → AtFront words out r₂ out₂ →
+at_front_once : {words out out₁ out₂ : List ℕ} {r₁ r₂ : Result ℕ Unwritten} → AtFront words out r₁ out₁ → AtFront words out r₂ out₂ →
     (r₁ ≡ r₂) × (out₁ ≡ out₂)
 at_front_once (fits room) (fits also) = (refl, refl)
 at_front_once (fits room) (no_room none) = absurd (omega (arith, room, none))
 at_front_once (no_room none) (fits room) = absurd (omega (arith, room, none))
 at_front_once (no_room none) (no_room also) = (refl, refl)
 
-pub one_text : {rule : ℕ} {out out₁ out₂ : List ℕ} {r₁ r₂ : Text} → Written rule out r₁ out₁ → Written rule out r₂ out₂ →
+pub one_text : {rule : ℕ} {out out₁ out₂ : List ℕ} {r₁ r₂ : Result ℕ Unwritten} → Written rule out r₁ out₁ → Written rule out r₂ out₂ →
     (r₁ ≡ r₂) × (out₁ ≡ out₂)
 one_text (written from to front) (written from' to' front') = at_front_once front front'
 one_text (written from to front) (no_rule none) = absurd (none from to)

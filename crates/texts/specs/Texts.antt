@@ -1,7 +1,7 @@
 -- The rule texts, byte for byte: document 01, "Types, entries and nodes". A `×` is the two bytes 195, 151.
-use Rattle.std.specs.Prelude.{List, [], ◌∷◌, ◌++◌, ℕ, ◌≤◌, ◌<◌, length, get_or, drop}
-use Rattle.texts.specs.declared.Text.{Text}
-use Rattle.texts.specs.declared.Text.TheVariants.{Bytes, NoRoom, NoRule}
+use Rattle.std.specs.Prelude.{List, [], ◌∷◌, ◌++◌, ℕ, ◌≤◌, ◌<◌, length, get_or, drop, Result, Ok, Err}
+use Rattle.texts.specs.declared.Unwritten.{Unwritten}
+use Rattle.texts.specs.declared.Unwritten.TheVariants.{NoRoom, NoRule}
 
 -- 1: comp combinator: left target = right source
 abbrev pub text_1 : List ℕ
@@ -59,11 +59,11 @@ abbrev pub longest : ℕ
 longest = 47
 
 -- words at the front of a buffer that has room for them; a shorter one is as it was. Either way it is said how many they are
-pub data AtFront (words out : List ℕ) : Text → List ℕ → Type 0 where
-  fits : length words ≤ length out → AtFront words out (Bytes (length words)) (words ++ drop (length words) out)
-  no_room : length out < length words → AtFront words out (NoRoom (length words)) out
+pub data AtFront (words out : List ℕ) : Result ℕ Unwritten → List ℕ → Type 0 where
+  fits : length words ≤ length out → AtFront words out (Ok (length words)) (words ++ drop (length words) out)
+  no_room : length out < length words → AtFront words out (Err (NoRoom (length words))) out
 
 -- the text of a rule written; a number that names none writes nothing
-pub data Written (rule : ℕ) (out : List ℕ) : Text → List ℕ → Type 0 where
-  written : {r : Text} {out' : List ℕ} → 1 ≤ rule → rule ≤ 7 → AtFront (text rule) out r out' → Written rule out r out'
-  no_rule : (1 ≤ rule → rule ≤ 7 → ⊥) → Written rule out NoRule out
+pub data Written (rule : ℕ) (out : List ℕ) : Result ℕ Unwritten → List ℕ → Type 0 where
+  written : {r : Result ℕ Unwritten} {out' : List ℕ} → 1 ≤ rule → rule ≤ 7 → AtFront (text rule) out r out' → Written rule out r out'
+  no_rule : (1 ≤ rule → rule ≤ 7 → ⊥) → Written rule out (Err NoRule) out

@@ -5,7 +5,6 @@ use super::page;
 use super::page::START;
 use headers::{EIGHT, HEADER};
 use std::io;
-use texts::Text;
 
 const PAGE: usize = 8192;
 
@@ -52,9 +51,8 @@ fn kind(record: &[u8]) -> u8 {
 // The text of a rule, byte for byte, by way of a lent array.
 fn rule_by(page: &mut [u8], place: usize, rule: u16, space: &mut [u8]) -> usize {
     match texts::write(rule, space) {
-        Text::Bytes(n) => page::text(page, place, page::front(space, n)),
-        Text::NoRoom(_) => place,
-        Text::NoRule => place,
+        Ok(n) => page::text(page, place, page::front(space, n)),
+        Err(_) => place,
     }
 }
 

@@ -1,10 +1,10 @@
 -- What a host lends: looked at, cleared, opened, and with its counts.
-use mathlib.Core.Path.{◌≡◌, refl, sym, ap, ◌∙◌, subst, subst₂}
+use mathlib.Core.Path.{◌≡◌, sym, ap, ◌∙◌, subst, subst₂}
 use mathlib.Core.Bool.{true, false}
 use mathlib.Core.List.{List, [], ◌∷◌}
 use Prim.Native.Nat.{ℕ, ◌*◌, ◌^◌, ◌≤◌, ◌<◌}
 use native.Mathlib.Omega.{arith}
-use lib.ListN.{length, set, replicate, length-replicate}
+use lib.ListN.{length, replicate, length-replicate}
 use Rattle.classes.specs.Table.{fresh}
 use Rattle.classes.specs.Columns.{laid}
 use Rattle.nodes.specs.Layout.{standing}
@@ -24,14 +24,6 @@ denies h = (λ e. h, λ e. let z : ◌≡◌ {A = ℕ} 0 1 = cc in absurd (omega
 pub admits : {P : Type 0} → P → Denies false P
 admits h = (λ e. let z : ◌≡◌ {A = ℕ} 0 1 = cc in absurd (omega arith), λ e. h)
 
--- three counts stored
-three : (v : List ℕ) (e l k : ℕ) → length v ≡ 3 → set (set (set v 0 e) 1 l) 2 k ≡ e ∷ l ∷ k ∷ []
-three (a ∷ b ∷ c ∷ []) e l k h = refl
-three [] e l k h = absurd (omega (arith, h))
-three (a ∷ []) e l k h = absurd (omega (arith, h))
-three (a ∷ b ∷ []) e l k h = absurd (omega (arith, h))
-three (a ∷ b ∷ c ∷ d ∷ v) e l k h = absurd (omega (arith, h))
-
 blank : (m k : ℕ) {l : List ℕ} → l ≡ replicate m 0 → m ≡ k → replicate k 0 ≡ l
 blank m k is same = sym (is ∙ ap (λ (i : ℕ). replicate i 0) same)
 
@@ -45,18 +37,15 @@ fresh_opened rows ranks links numbers q {p} {r} {t} {n} {e} {j} {kept} wide smal
     (blank links (3 * rows) et hl) (blank numbers nodes_long en hn)
     (opened_first most_nodes rows wide small none is))
 
-pub opened_by : {p₀ r₀ q₀ t₀ n₀ v₀ p₁ p r q t n : List ℕ} {e j kept : ℕ} → Sized (tables p₀ r₀ q₀ t₀ n₀ v₀) → p₁ ≡ replicate (length p₀) 0 → kept ≡ 0 →
+pub opened_by : {p₀ r₀ q₀ t₀ n₀ v₀ p₁ p r q t n v : List ℕ} {e j kept : ℕ} → Sized (tables p₀ r₀ q₀ t₀ n₀ v₀) → p₁ ≡ replicate (length p₀) 0 → kept ≡ 0 →
     laid p (replicate (length p₁) 0) q (replicate (3 * length p₁) 0) e j ≡ entered (fresh (length p₁)) standing → r ≡ replicate (length r₀) 0 → t ≡ replicate (length t₀) 0 → n ≡ replicate (length n₀) 0 →
-    Sized (tables p r q t n (set (set (set v₀ 0 e) 1 j) 2 kept)) →
-    OpenedBy (tables p₀ r₀ q₀ t₀ n₀ v₀) 0 (tables p r q t n (set (set (set v₀ 0 e) 1 j) 2 kept))
-opened_by {p₀} {r₀} {q₀} {t₀} {n₀} {v₀} {p₁} {p} {r} {q} {t} {n} {e} {j} {kept} sized clear none is er et en then =
+    v ≡ e ∷ j ∷ kept ∷ [] → Sized (tables p r q t n v) → OpenedBy (tables p₀ r₀ q₀ t₀ n₀ v₀) 0 (tables p r q t n v)
+opened_by {p₀} {r₀} {q₀} {t₀} {n₀} {v₀} {p₁} {p} {r} {q} {t} {n} {v} sized clear none is er et en stored then =
     let rows = sized.parents in
     let long : length p₁ ≡ length p₀ = ap length clear ∙ length-replicate (length p₀) 0 in
     let (o, nothing) = fresh_opened (length p₁) (length r₀) (length t₀) (length n₀) q (omega (arith, long, rows)) (omega (arith, long, rows))
     (omega (arith, long, rows, sized.ranks)) (omega (arith, long, rows, sized.three_a_link)) sized.seven_a_node none is er et en in
-    let stored = three v₀ e j kept sized.counts in
-    subst (λ (v : List ℕ). OpenedBy (tables p₀ r₀ q₀ t₀ n₀ v₀) 0 (tables p r q t n v)) (sym stored)
-    (OpenedBy.done sized (subst (λ (v : List ℕ). Sized (tables p r q t n v)) stored then) o nothing)
+    subst (λ (v : List ℕ). Sized (tables p r q t n v) → OpenedBy (tables p₀ r₀ q₀ t₀ n₀ v₀) 0 (tables p r q t n v)) (sym stored) (λ then. OpenedBy.done sized then o nothing) then
 
 -- one record put after none is one record put
 only_one : {bytes listed answers listed' answers' : List ℕ} {s s' : State} {o : Opened most_nodes s} {o' : Opened most_nodes s'} → Puts bytes 0 s o listed answers 1 s' o' listed' answers' →
@@ -64,14 +53,12 @@ only_one : {bytes listed answers listed' answers' : List ℕ} {s s' : State} {o 
 only_one (Puts.more Puts.none x) = x
 
 -- a record put to a state made of the tables that were lent, and its counts stored
-pub recorded_by : {was : Lent} {p r q t n bytes work listing answer : List ℕ} (s : Lending) → Long was bytes →
-    Sized (tables p r q t n (set (set (set was.tables.live 0 s.live.entries) 1 s.live.links) 2 s.live.kept)) →
+pub recorded_by : {was : Lent} {p r q t n v bytes work listing answer : List ℕ} (s : Lending) → Long was bytes → v ≡ s.live.entries ∷ s.live.links ∷ s.live.kept ∷ [] →
+    Sized (tables p r q t n v) →
     p ≡ s.parent.now → r ≡ s.rank.now → q ≡ s.rows.now → t ≡ s.trail.now → n ≡ s.nodes.now →
     ((o : Opened most_nodes (state_of was.tables)) → (o' : Opened most_nodes (held_by s)) ×
     Puts bytes 0 (state_of was.tables) o was.listing was.answer 1 (held_by s) o' listing answer) →
-    RecordedBy was bytes 0 (lent (tables p r q t n (set (set (set was.tables.live 0 s.live.entries) 1 s.live.links) 2 s.live.kept)) work listing answer)
-recorded_by {was} {p} {r} {q} {t} {n} {bytes} {work} {listing} {answer} s long sized ep er eq et en puts =
-    let stored = three was.tables.live s.live.entries s.live.links s.live.kept long.0.counts in
-    subst (λ (v : List ℕ). RecordedBy was bytes 0 (lent (tables p r q t n v) work listing answer)) (sym stored)
-    (RecordedBy.done long (subst (λ (v : List ℕ). Sized (tables p r q t n v)) stored sized)
-    (λ o. rw (ep, er, eq, et, en) (only_one (puts o).1)))
+    RecordedBy was bytes 0 (lent (tables p r q t n v) work listing answer)
+recorded_by {was} {p} {r} {q} {t} {n} {v} {bytes} {work} {listing} {answer} s long stored sized ep er eq et en puts =
+    subst (λ (v : List ℕ). Sized (tables p r q t n v) → RecordedBy was bytes 0 (lent (tables p r q t n v) work listing answer)) (sym stored)
+    (λ sized. RecordedBy.done long sized (λ o. rw (ep, er, eq, et, en) (only_one (puts o).1))) sized

@@ -6,8 +6,7 @@ use Rattle.classes.specs.Columns.{laid}
 use Rattle.texts.specs.Texts.{text}
 use Rattle.types.specs.Limits.{most_nodes, most_entries, rows_long, trail_long, nodes_long, work_long, longest_listing}
 use Rattle.types.specs.States.{State, state, Opened}
-use Rattle.headers.specs.Header.{code_of}
-use Rattle.headers.specs.declared.Outcome.{Outcome}
+use Rattle.headers.specs.Header.{Outcome, code_of}
 use Rattle.jobs.specs.Jobs.{Job}
 use Rattle.runs.specs.Putting.{Recorded}
 

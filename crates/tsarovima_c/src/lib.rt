@@ -6,12 +6,11 @@
 
 #![tactic(auto)]
 
-ghost use Rattle.std.specs.Prelude.{◌≡◌, length};
 ghost use Rattle.tsarovima_c.specs.Lent.{RunBy, Denies, Tables, tables, TableLengths, OpenedBy};
 ghost use Rattle.tsarovima_c.specs.Lent.{Lent, lent, RoomLengths, OpenedIfLong, RecordedBy, closing_bytes, TextBy};
 
 use headers::EIGHT;
-use texts::Text;
+use texts::Unwritten;
 use types::limits::{ENTRIES, LISTING, NODE_ROWS, ROWS, TRAIL, WORK};
 use types::state::{self, Live, State};
 
@@ -22,6 +21,9 @@ const WRONG_LENGTH: u32 = 1;
 
 // Numbers of `live`: entries, links, nodes kept.
 const LIVE: usize = 3;
+
+// The record that closes.
+const CLOSING: [u8; 8] = [65, 0, 0, 0, 0, 0, 0, 0];
 
 // Runs a job: 0, or a refusal 16 to 22 with both buffers as they were.
 pub fn tsarovima_job(job: &[u8], answers: &mut [u8], listing: &mut [u16]) -> u32
@@ -41,44 +43,19 @@ fn wrong_tables(
 ) -> bool
     ensures { Denies result (TableLengths parent rank rows trail nodes live) }
 {
-    if parent != ENTRIES {
-        return true;
-    }
-    if rank != ENTRIES {
-        return true;
-    }
-    if rows != ROWS {
-        return true;
-    }
-    if trail != TRAIL {
-        return true;
-    }
-    if nodes != NODE_ROWS {
-        return true;
-    }
-    if live != LIVE {
-        return true;
-    }
-    false
+    parent != ENTRIES
+        || rank != ENTRIES
+        || rows != ROWS
+        || trail != TRAIL
+        || nodes != NODE_ROWS
+        || live != LIVE
 }
 
 // Whether what is lent beside the tables is too short for a record.
 fn wrong_room(work: usize, listing: usize, bytes: usize, answer: usize) -> bool
     ensures { Denies result (RoomLengths work listing bytes answer) }
 {
-    if work < WORK {
-        return true;
-    }
-    if listing < LISTING {
-        return true;
-    }
-    if bytes < EIGHT {
-        return true;
-    }
-    if answer < EIGHT {
-        return true;
-    }
-    false
+    work < WORK || listing < LISTING || bytes < EIGHT || answer < EIGHT
 }
 
 // Makes what the host lends a fresh state.
@@ -113,9 +90,7 @@ pub fn tsarovima_open(
     trail.fill(0);
     nodes.fill(0);
     let opened = state::open(parent, rows);
-    live[0] = opened.entries;
-    live[1] = opened.links;
-    live[2] = opened.kept;
+    live.copy_from_slice(&[opened.entries, opened.links, opened.kept]);
     DONE
 }
 
@@ -172,9 +147,7 @@ pub fn tsarovima_record(
         live: counts,
     };
     runs::run(&mut state, work, listing, bytes, 0, answer, 1);
-    live[0] = state.live.entries;
-    live[1] = state.live.links;
-    live[2] = state.live.kept;
+    live.copy_from_slice(&[state.live.entries, state.live.links, state.live.kept]);
     DONE
 }
 
@@ -203,20 +176,19 @@ pub fn tsarovima_close(
         work.new listing.new answer.new in
         RecordedBy was closing_bytes result is) }
 {
-    let bytes = [65, 0, 0, 0, 0, 0, 0, 0];
     tsarovima_record(
-        parent, rank, rows, trail, nodes, live, work, &bytes, answer, listing,
+        parent, rank, rows, trail, nodes, live, work, &CLOSING, answer, listing,
     )
 }
 
 // Writes the text of a rule, 1 to 7, to the front of the lent buffer if it has room for it, and returns how many bytes the text has:
 // 0 where there is no such rule.
+#[tactic(auto, using(crate::proofs::RuleTexts::text_by))]
 pub fn tsarovima_rule_text(rule: u16, lent: &mut [u8]) -> usize
     ensures { TextBy rule lent.old result lent.new }
 {
     match texts::write(rule, lent) {
-        Text::Bytes(n) => n,
-        Text::NoRoom(n) => n,
-        Text::NoRule => 0,
+        Ok(n) | Err(Unwritten::NoRoom(n)) => n,
+        Err(Unwritten::NoRule) => 0,
     }
 }

@@ -10,33 +10,33 @@ use Rattle.types.specs.States.{State}
 use Rattle.types.specs.Lent.{held_by}
 use Rattle.types.proofs.Begun.{opened_first}
 use Rattle.headers.specs.Header.{judged}
-use Rattle.headers.specs.declared.Outcome.TheVariants.{Done}
+use Rattle.std.specs.Prelude.{Ok}
+use Rattle.std.proofs.lemmas.Result.{err_from_is_err_and}
 use Rattle.headers.proofs.Judging.{Ready, ready}
 use Rattle.jobs.specs.Jobs.{Job}
 use Rattle.jobs.proofs.Running.{Ran, ran}
 use Rattle.jobs.proofs.Finishing.{can_be_shown, finished}
 use Rattle.jobs.proofs.job.Goals as goal
-use Rattle.jobs.proofs.job.Goals.{After-run, In-Done}
+use Rattle.jobs.proofs.job.Goals.{After-run, In_ok-judge}
 
 -- where the arm that goes on is taken the job can be run
-done_at : (c : In-Done) → judged c.args.job.now (length c.args.answers.now) (length c.args.listing.now) ≡ Done
-done_at c = sym c.judge-outcome.ensures ∙ c.in-Done.is
+done_at : (c : In_ok-judge) → judged c.args.job.now (length c.args.answers.now) (length c.args.listing.now) ≡ Ok tt
+done_at c = sym c.judge.ensures ∙ c.in_ok-judge.was
 
-ready_at : (c : In-Done) → Ready c.args.job.now (length c.args.answers.now) (length c.args.listing.now)
+ready_at : (c : In_ok-judge) → Ready c.args.job.now (length c.args.answers.now) (length c.args.listing.now)
 ready_at c = ready _ _ _ (done_at c)
 
-pub returns-in_default : goal.returns-in_default
-returns-in_default c = Job.refused (sym c.judge-outcome.ensures) c.in_default.not-Done
+pub returns-in_err-judge : goal.returns-in_err-judge
+returns-in_err-judge c =
+    let p = err_from_is_err_and c.from_residual.result c.from_residual.ensures.1 in
+    rw (p.1, p.2) (Job.refused (sym c.judge.ensures ∙ c.in_err-judge.was) (λ e. absurd cc))
 
 pub open-live-requires : goal.open-live-requires
 open-live-requires c = (most_entries, omega arith, omega arith, refl, refl)
 
-pub overflow_sub-job : goal.overflow_sub-job
-overflow_sub-job c = omega (arith, (ready_at (goal.at.overflow_sub-job c).In-Done).long)
-
 pub run-requires : goal.run-requires
 run-requires c =
-    let ready = ready_at (goal.at.run-requires c).In-Done in record {
+    let ready = ready_at (goal.at.run-requires c).In_ok-judge in record {
       opened = (opened_first most_nodes most_entries (omega arith) (omega arith) c.open-live.ensures.0 c.open-live.ensures.1).0;
       room = record {
         pairs = omega (arith, c.open-live.auto.parent, length-replicate {A = ℕ} most_entries 0, length-replicate {A = ℕ} work_long 0);
@@ -66,8 +66,8 @@ module _ (c : After-run) where
 
 pub show-requires : goal.show-requires
 show-requires c =
-    can_be_shown (all-put (goal.at.show-requires c).After-run).1 (listed_long (goal.at.show-requires c).After-run) (ready_at (goal.at.show-requires c).In-Done).numbers
+    can_be_shown (all-put (goal.at.show-requires c).After-run).1 (listed_long (goal.at.show-requires c).After-run) (ready_at (goal.at.show-requires c).In_ok-judge).numbers
 
 pub returns : goal.returns
 returns c =
-    finished (all-put (goal.at.returns c).After-run).1 (done_at (goal.at.returns c).In-Done) (omega (arith, (ready_at (goal.at.returns c).In-Done).long)) c.show.ensures
+    finished (all-put (goal.at.returns c).After-run).1 (done_at (goal.at.returns c).In_ok-judge) (omega (arith, (ready_at (goal.at.returns c).In_ok-judge).long)) c.show.ensures

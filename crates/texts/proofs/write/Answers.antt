@@ -1,39 +1,36 @@
 -- `texts::write` meets its contract: each arm's text is what `put` copied; the last arm's number is none of 1 to 7.
-use mathlib.Core.Path.{◌≡◌}
+use mathlib.Core.Path.{◌≡◌, ap, subst}
 use mathlib.Core.List.{List}
 use Prim.Native.Nat.{ℕ, ◌≤◌, suc-le-suc}
 use lib.Dec.{lit≤}
+use borrow.Author.Rules.{rules}
+use Rattle.std.proofs.Common.{Bor}
+use Rattle.std.specs.Prelude.{Result}
 use Rattle.texts.specs.Texts.{text, AtFront, Written}
 use Rattle.texts.specs.Texts.Written.{written, no_rule}
-use Rattle.texts.specs.declared.Text.{Text}
+use Rattle.texts.specs.declared.Unwritten.{Unwritten}
 use Rattle.nodes.proofs.Arms.{not_among}
-use borrow.Author.Rules.{rules}
 use Rattle.texts.proofs.write.Goals as goal
+use Rattle.texts.proofs.write.Goals.{in-1, in-2, in-3, in-4, in-5, in-6, in-7}
 
-is-written : (k : ℕ) {rule : ℕ} {r : Text} {out out' : List ℕ} → 1 ≤ k → k ≤ 7 → rule ≡ k → AtFront (text k) out r out' →
+same : {s s' : Bor (List ℕ)} → s ≡ s' → s.now ≡ s'.now
+same is = ap (λ (s : Bor (List ℕ)). s.now) is
+
+is-written : (k : ℕ) {rule : ℕ} {r : Result ℕ Unwritten} {words out out' : List ℕ} → 1 ≤ k → k ≤ 7 → rule ≡ k → words ≡ text k → AtFront words out r out' →
     Written rule out r out'
-is-written k from to is put = rw is (written from to put)
-
-pub returns-in-1 : goal.returns-in-1
-returns-in-1 c = is-written 1 (lit≤ tt) (lit≤ tt) c.in-1.is c.put.ensures
-
-pub returns-in-2 : goal.returns-in-2
-returns-in-2 c = is-written 2 (lit≤ tt) (lit≤ tt) c.in-2.is c.put-in-2.ensures
-
-pub returns-in-3 : goal.returns-in-3
-returns-in-3 c = is-written 3 (lit≤ tt) (lit≤ tt) c.in-3.is c.put-in-3.ensures
-
-pub returns-in-4 : goal.returns-in-4
-returns-in-4 c = is-written 4 (lit≤ tt) (lit≤ tt) c.in-4.is c.put-in-4.ensures
-
-pub returns-in-5 : goal.returns-in-5
-returns-in-5 c = is-written 5 (lit≤ tt) (lit≤ tt) c.in-5.is c.put-in-5.ensures
-
-pub returns-in-6 : goal.returns-in-6
-returns-in-6 c = is-written 6 (lit≤ tt) (lit≤ tt) c.in-6.is c.put-in-6.ensures
-
-pub returns-in-7 : goal.returns-in-7
-returns-in-7 c = is-written 7 (lit≤ tt) (lit≤ tt) c.in-7.is c.put-in-7.ensures
+is-written k {r = r} {out = out} {out' = out'} from to is words put = rw is (written from to (subst (λ (l : List ℕ). AtFront l out r out') words put))
 
 pub returns-in_default : goal.returns-in_default
 returns-in_default c = no_rule (λ from to. not_among 1 7 _ (search rules) from (suc-le-suc to))
+
+pub returns : goal.returns
+returns c =
+    elim c.match-rule.branch [
+      | in-1 w ↦ is-written 1 (lit≤ tt) (lit≤ tt) w.in-1.is (same w.text-is) c.put.ensures
+      | in-2 w ↦ is-written 2 (lit≤ tt) (lit≤ tt) w.in-2.is (same w.text-is) c.put.ensures
+      | in-3 w ↦ is-written 3 (lit≤ tt) (lit≤ tt) w.in-3.is (same w.text-is) c.put.ensures
+      | in-4 w ↦ is-written 4 (lit≤ tt) (lit≤ tt) w.in-4.is (same w.text-is) c.put.ensures
+      | in-5 w ↦ is-written 5 (lit≤ tt) (lit≤ tt) w.in-5.is (same w.text-is) c.put.ensures
+      | in-6 w ↦ is-written 6 (lit≤ tt) (lit≤ tt) w.in-6.is (same w.text-is) c.put.ensures
+      | in-7 w ↦ is-written 7 (lit≤ tt) (lit≤ tt) w.in-7.is (same w.text-is) c.put.ensures
+    ]
