@@ -30,16 +30,11 @@ fn failed(rt: &impl Eprint, what: &str, why: impl Display + Drop) {
     let _ = eprintln!(rt; "tsarovima: {what}: {why}");
 }
 
-// The job's code. Nothing that the call promises is needed here, so it is kept out of the other functions' proofs.
-fn put(job: &[u8], answers: &mut [u8], listing: &mut [u16]) -> u32 {
-    headers::code(jobs::job(job, answers, listing))
-}
-
 // Puts what was read, as a job, and reports.
 fn check(rt: &(impl Print + Eprint), job: &[u8]) {
     let mut answers = [0u8; ANSWERS];
     let mut listing = [0u16; LISTING];
-    let code = put(job, &mut answers, &mut listing);
+    let code = headers::code(jobs::job(job, &mut answers, &mut listing));
     if let Err(why) = report::report(rt, code, job, &answers, &listing) {
         failed(rt, "standard output", why);
     }
