@@ -10,15 +10,15 @@ ghost use Rattle.calls.specs.Values.{state_of};
 
 use calls::Owned;
 use nodes::Node;
+use say::Said;
 
-fn offer(rt: &impl Print, s: Owned, words: &[u8], n: Node) -> Owned
+fn offer(rt: &impl Print, s: Owned, words: &str, n: Node) -> Owned
     requires { Opened 1024 (state_of s) }
     ensures { Opened 1024 (state_of result) }
 {
     let put = calls::offer(s, n);
-    let answer = put.answer;
-    say::text(rt, words);
-    say::answer(rt, answer);
+    let answer = Said(put.answer);
+    let _ = println!(rt; "{words}: {answer}");
     put.state
 }
 
@@ -27,10 +27,8 @@ fn take_back(rt: &impl Print, s: Owned, to: u16) -> Owned
     ensures { Opened 1024 (state_of result) }
 {
     let put = calls::take_back(s, to);
-    let answer = put.answer;
-    say::text(rt, b"back ");
-    say::number(rt, to);
-    say::answer(rt, answer);
+    let answer = Said(put.answer);
+    let _ = println!(rt; "back {to}: {answer}");
     put.state
 }
 
@@ -39,11 +37,9 @@ fn close(rt: &impl Print, s: Owned) -> Owned
     ensures { Opened 1024 (state_of result) }
 {
     let closed = calls::close(s);
-    let answer = closed.answer;
-    let listing = closed.listing;
-    say::text(rt, b"close");
-    say::answer(rt, answer);
-    say::listing(rt, &listing);
+    let answer = Said(closed.answer);
+    let _ = println!(rt; "close: {answer}");
+    say::listing(rt, &closed.listing);
     closed.state
 }
 
@@ -51,19 +47,19 @@ fn main(rt: HostRuntime) {
     let mut s = calls::open();
 
     // The third node clashes, as 1 is no product, and the nodes before it are what they were.
-    s = offer(&rt, s, b"unit", Node::Unit);
-    s = offer(&rt, s, b"take 0", Node::Take(0));
-    s = offer(&rt, s, b"comp 0 1", Node::Comp(0, 1));
+    s = offer(&rt, s, "unit", Node::Unit);
+    s = offer(&rt, s, "take 0", Node::Take(0));
+    s = offer(&rt, s, "comp 0 1", Node::Comp(0, 1));
     s = close(&rt, s);
 
     // Of these nodes the unit stays, for another program: the one whose whole listing document 01 gives.
     s = take_back(&rt, s, 1);
-    s = offer(&rt, s, b"case 0 0", Node::Case(0, 0));
+    s = offer(&rt, s, "case 0 0", Node::Case(0, 0));
     s = close(&rt, s);
 
     // A type that contains itself has no end; without that node the listing is the last one again.
-    s = offer(&rt, s, b"iden", Node::Iden);
-    s = offer(&rt, s, b"disconnect 2 2", Node::Disconnect(2, 2));
+    s = offer(&rt, s, "iden", Node::Iden);
+    s = offer(&rt, s, "disconnect 2 2", Node::Disconnect(2, 2));
     s = close(&rt, s);
     s = take_back(&rt, s, 2);
     close(&rt, s);

@@ -1,66 +1,48 @@
 // What is printed. Nothing is promised of it: the gate compares it. What standard output does not take is let go.
 
+use std::fmt;
 use types::Answer;
 
-pub(super) fn text(rt: &impl Print, words: &[u8]) {
-    let _ = rt.write_all(words);
-}
+// An answer in words.
+#[derive(Clone, Copy)]
+pub(super) struct Said(pub(super) Answer);
 
-pub(super) fn number(rt: &impl Print, n: u16) {
-    let _ = rt.print(n);
-}
-
-fn line(rt: &impl Print, before: &[u8], n: u16, after: &[u8]) {
-    text(rt, before);
-    number(rt, n);
-    text(rt, after);
-}
-
-pub(super) fn answer(rt: &impl Print, answer: Answer) {
-    match answer {
-        Answer::Kept(node, joins) => {
-            line(rt, b": node ", node, b"");
-            line(rt, b", ", joins, b" joins\n");
+impl fmt::Display for Said {
+    fn fmt<W: fmt::Write>(&self, f: &mut fmt::Formatter<W>) -> fmt::Result {
+        match self.0 {
+            Answer::Kept(node, joins) => write!(f, "node {node}, {joins} joins"),
+            Answer::TakenBack(nodes) => write!(f, "{nodes} kept"),
+            Answer::Closed(nodes, types) => write!(f, "{nodes} nodes, {types} types"),
+            Answer::Malformed => write!(f, "malformed"),
+            Answer::NoChild => write!(f, "no such child"),
+            Answer::Full => write!(f, "full"),
+            Answer::Clashes(rule) => write!(f, "clash, rule {rule}"),
+            Answer::Endless(node) => write!(f, "endless, node {node}"),
+            Answer::TooFar(nodes) => write!(f, "only {nodes} kept"),
         }
-        Answer::TakenBack(nodes) => line(rt, b": ", nodes, b" kept\n"),
-        Answer::Closed(nodes, types) => {
-            line(rt, b": ", nodes, b" nodes");
-            line(rt, b", ", types, b" types\n");
-        }
-        Answer::Malformed => text(rt, b": malformed\n"),
-        Answer::NoChild => text(rt, b": no such child\n"),
-        Answer::Full => text(rt, b": full\n"),
-        Answer::Clashes(rule) => line(rt, b": clash, rule ", rule, b"\n"),
-        Answer::Endless(node) => line(rt, b": endless, node ", node, b"\n"),
-        Answer::TooFar(nodes) => line(rt, b": only ", nodes, b" kept\n"),
     }
 }
 
-fn spaced(rt: &impl Print, n: u16) {
-    text(rt, b" ");
-    number(rt, n);
-}
+// Numbers in a line, a space before each.
+#[derive(Clone, Copy)]
+struct Spaced<'a>(&'a [u16]);
 
-fn numbers(rt: &impl Print, some: &[u16]) {
-    for i in 0..some.len() {
-        spaced(rt, some[i]);
+impl fmt::Display for Spaced<'_> {
+    fn fmt<W: fmt::Write>(&self, f: &mut fmt::Formatter<W>) -> fmt::Result {
+        for n in self.0 {
+            write!(f, " {n}")?;
+        }
+        Ok(())
     }
-}
-
-fn end_of(nodes: u16, arrows: u16) -> usize {
-    (arrows as usize) + 2 * (nodes as usize)
 }
 
 // The listing's numbers up to its end: its arrows' offset, and two numbers for each node.
 pub(super) fn listing(rt: &impl Print, listing: &[u16]) {
-    let start: usize = 0;
-    if listing.len() < 4 {
+    let &[nodes, _, _, arrows, ..] = listing else {
         return;
+    };
+    let end = usize::from(arrows) + 2 * usize::from(nodes);
+    if let Some(listed) = listing.get(..end) {
+        let _ = rt.println(Spaced(listed));
     }
-    let end = end_of(listing[0], listing[3]);
-    if listing.len() < end {
-        return;
-    }
-    numbers(rt, &listing[start..end]);
-    text(rt, b"\n");
 }

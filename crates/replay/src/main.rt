@@ -19,6 +19,7 @@ mod plain;
 mod stream;
 
 use headers::{EIGHT, HEADER};
+use std::io;
 use std::io::Read;
 
 const MOST_RECORDS: usize = 4096;
@@ -28,37 +29,71 @@ const ANSWERS: usize = EIGHT * MOST_RECORDS;
 
 const JOB: usize = HEADER + ANSWERS;
 
-// What an item can be.
-const LENDING: usize = 0;
+// The stream ends here: no item follows, or none that can be put.
+#[derive(Clone, Copy, Debug, PartialEq, Eq)]
+struct Ended;
 
-const PLAIN: usize = 1;
+impl From<io::Error> for Ended {
+    fn from(_why: io::Error) -> Ended {
+        Ended
+    }
+}
+
+// An item, by the numbers with which it opens.
+#[derive(Clone, Copy, Debug, PartialEq, Eq)]
+enum Item {
+    Lending {
+        length: usize,
+        bytes: usize,
+        numbers: usize,
+    },
+    Plain {
+        length: usize,
+    },
+}
+
+impl TryFrom<[usize; 4]> for Item {
+    type Error = Ended;
+
+    fn try_from(opening: [usize; 4]) -> Result<Item, Ended> {
+        match opening {
+            [0, length, bytes, numbers] => Ok(Item::Lending {
+                length,
+                bytes,
+                numbers,
+            }),
+            [1, _, _, length] => Ok(Item::Plain { length }),
+            _ => Err(Ended),
+        }
+    }
+}
 
 // The call itself, and its code. Nothing that it promises is needed here, so it is kept out of the other functions' proofs.
 fn run(job: &[u8], answers: &mut [u8], listing: &mut [u16]) -> u32 {
     headers::code(jobs::job(job, answers, listing))
 }
 
-// One item: whether another may follow.
-fn item(rt: &impl Print, input: &mut impl Read) -> bool {
+// Reads an item, puts its job and writes what becomes of it.
+fn put_next(rt: &impl Print, input: &mut impl Read) -> Result<(), Ended> {
     let mut space = [0u8; JOB];
-    let job: &mut [u8] = &mut space;
-    if !stream::read(input, job, 0, HEADER) {
-        return false;
-    }
-    match stream::number(job, 0) {
-        LENDING => lending::put(rt, input, job),
-        PLAIN => plain::put(rt, input, job),
-        _ => false,
+    match Item::try_from(stream::opening(input, &mut space)?)? {
+        Item::Lending {
+            length,
+            bytes,
+            numbers,
+        } => {
+            let job = space.get_mut(..length).ok_or(Ended)?;
+            lending::put(rt, input, job, bytes, numbers)
+        }
+        Item::Plain { length } => plain::put(rt, input, space.get_mut(..length).ok_or(Ended)?),
     }
 }
 
 fn main(rt: HostRuntime) {
     let mut input = rt.stdin();
-    let mut left: u64 = 18446744073709551615;
-    while item(&rt, &mut input) {
-        if left == 0 {
+    for _ in 0..u64::MAX {
+        if put_next(&rt, &mut input).is_err() {
             return;
         }
-        left -= 1;
     }
 }
