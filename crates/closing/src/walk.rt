@@ -140,6 +140,7 @@ fn step(
 {
     let top = work[WORK * ((at.depth - 1) as usize) + PATH];
     match look(parent, rows, top) {
+        // an arm of its own: a must-fail edit numbers free classes alone as sums
         Bound::Free => Ok(complete(work, listing, entries, at, top, UNIT)),
         Bound::Unit => Ok(complete(work, listing, entries, at, top, UNIT)),
         Bound::Sum(left, right) => {
