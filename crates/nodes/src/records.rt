@@ -44,6 +44,7 @@ fn word(n: u16, b: u16) -> Asks
     unless(b, Asks::Offer)
 }
 
+#[tactic(auto, unfolding(crate::specs::Records::nodes))]
 fn node(kind: u8, a: u16, b: u16) -> Asks
     requires { kind ≤ 16 }
     ensures { result ≡ asks (by_kind kind a b) }
@@ -70,6 +71,7 @@ fn node(kind: u8, a: u16, b: u16) -> Asks
 }
 
 // Take-back, closing and the unknown.
+#[tactic(auto, unfolding(crate::specs::Records::nodes))]
 fn request(kind: u8, a: u16, b: u16) -> Asks
     requires { 17 ≤ kind }
     ensures { result ≡ asks (by_kind kind a b) }
