@@ -22,13 +22,11 @@ struct Rule(u16);
 impl fmt::Display for Rule {
     fn fmt<W: fmt::Write>(&self, f: &mut fmt::Formatter<W>) -> fmt::Result {
         let mut space = [0u8; LONGEST];
-        match texts::write(self.0, &mut space) {
-            Text::Bytes(n) => {
-                let text = space.get(..n).unwrap_or(&space);
-                f.write_str(str::from_utf8(text).unwrap_or(""))
-            }
-            Text::NoRoom(_) | Text::NoRule => Ok(()),
-        }
+        let Text::Bytes(n) = texts::write(self.0, &mut space) else {
+            return Ok(());
+        };
+        let text = space.get(..n).unwrap_or(&space);
+        f.write_str(str::from_utf8(text).unwrap_or(""))
     }
 }
 
@@ -54,8 +52,8 @@ impl Answered {
     }
 }
 
-// The numbers, and words for a person. The code is matched as a number, since a number and its words here say all: an enum between them
-// would only list the codes a second time.
+// The numbers, and words for a person. Code and kind are matched as numbers, since a number and its words here say all: an enum between
+// them would only list both a second time.
 impl fmt::Display for Answered {
     fn fmt<W: fmt::Write>(&self, f: &mut fmt::Formatter<W>) -> fmt::Result {
         write!(f, "{} {} {}  ", self.code, self.first, self.second)?;
