@@ -12,6 +12,7 @@ use calls::Owned;
 use nodes::Node;
 use say::Said;
 
+// The words are the node's. A Display for its sixteen kinds would be longer than the six lines that they are in.
 fn offer(rt: &impl Print, s: Owned, words: &str, n: Node) -> Owned
     requires { Opened 1024 (state_of s) }
     ensures { Opened 1024 (state_of result) }

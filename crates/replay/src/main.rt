@@ -68,7 +68,7 @@ impl TryFrom<[usize; 4]> for Item {
     }
 }
 
-// The call itself, and its code. Nothing that it promises is needed here, so it is kept out of the other functions' proofs.
+// The call itself, and its code, for both kinds of item.
 fn run(job: &[u8], answers: &mut [u8], listing: &mut [u16]) -> u32 {
     headers::code(jobs::job(job, answers, listing))
 }

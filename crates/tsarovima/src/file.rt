@@ -33,8 +33,9 @@ impl fmt::Display for Unread {
     }
 }
 
-// What the input has. A full array counts as longer: the caller lends one byte more than may come. Each turn reads a byte or more, so
-// the array's room bounds the turns, and nothing has to be known of where the input ends.
+// What the input has. A full array counts as longer: the caller lends one byte more than may come. No `for` fits, since a turn goes on
+// by as many bytes as came; it is one or more, so the array's room bounds the turns, and nothing has to be known of where the input
+// ends.
 pub(super) fn read<'a>(input: &mut impl Read, space: &'a mut [u8]) -> Result<&'a [u8], Unread> {
     let mut at: usize = 0;
     while at < space.len() {

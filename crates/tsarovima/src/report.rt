@@ -51,8 +51,8 @@ impl Answered {
     }
 }
 
-// The numbers, and words for a person. The code is matched as a number, since a number and its words here say all: an enum between them
-// would only list the codes a second time.
+// The numbers, and words for a person. Code and kind are matched as numbers, since a number and its words here say all: an enum between
+// them would only list both a second time.
 impl fmt::Display for Answered {
     fn fmt<W: fmt::Write>(&self, f: &mut fmt::Formatter<W>) -> fmt::Result {
         write!(f, "{} {} {}  ", self.code, self.first, self.second)?;
