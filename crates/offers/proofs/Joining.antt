@@ -3,7 +3,6 @@ use mathlib.Core.Path.{◌≡◌, refl, sym, ap, ◌∙◌, subst}
 use mathlib.Core.List.{List, [], ◌∷◌, Memᴰ}
 use Prim.Native.Nat.{ℕ, suc, ◌+◌, ◌*◌, ◌^◌, ◌≤◌, ◌<◌}
 use native.Mathlib.Numerals.{add-one}
-use native.Mathlib.Nat.{zero-add}
 use native.Mathlib.Omega.{arith}
 use lib.ListN.{length, get_or, drop}
 use lib.Seq.{drop-cons, drop-length}
@@ -25,7 +24,6 @@ use Rattle.types.specs.States.{Stops}
 use Rattle.combinators.specs.Entered.Meets.{done, next}
 use Rattle.types.specs.States.Stops.{here as stops_here, later}
 use Rattle.combinators.specs.Entering.{Named}
-use Rattle.types.specs.Applying.{Meetable}
 
 get_or_mem : (rs : List Numbered) (i : ℕ) → i < length rs → Memᴰ (get_or rs i (says 0 0 0)) rs
 get_or_mem [] i h = absurd (omega arith)
@@ -39,17 +37,6 @@ pub record Joins (t₀ : Table) (rs : List Numbered) (t : Table) (pending : List
   pub pending_room : 2 * limit t ≤ length pending
   pub meets : {u : Table} → Meets t (drop i rs) u → Meets t₀ rs u
   pub stops : {k : ℕ} {u : Table} → Stops t (drop i rs) k u → Stops t₀ rs (i + k) u
-
-pub joins_begin : {t : Table} {pending : List ℕ} {rs : List Numbered} → Meetable t pending rs → Joins t rs t pending 0
-joins_begin {t} {rs = rs} m =
-    record {
-      made = m.made;
-      named = m.named;
-      few = omega arith;
-      pending_room = m.pending_room;
-      meets = λ d. d;
-      stops = λ {k} {u} d. subst (λ (n : ℕ). Stops t rs n u) (sym (zero-add k)) d;
-    }
 
 module _ {t₀ : Table} {rs : List Numbered} {t : Table} {pending : List ℕ} {i : ℕ} (j : Joins t₀ rs t pending i) (more : i < length rs) (one other number : ℕ)
     (is : says number one other ≡ get_or rs i (says 0 0 0)) where
