@@ -92,9 +92,18 @@ pub fn run(
         (o : Opened most_nodes was) → (o' : Opened most_nodes is) ×
         Puts bytes.now from was o listed.old answers.old count is o' listed.new answers.new }
 {
+    // A struct of the loop's own: the tables of the lent one would be looked up in memory at every use.
+    let mut own = State {
+        parent: &mut *state.parent,
+        rank: &mut *state.rank,
+        rows: &mut *state.rows,
+        trail: &mut *state.trail,
+        nodes: &mut *state.nodes,
+        live: state.live,
+    };
     for i in 0..count {
         put_bytes(
-            state,
+            &mut own,
             work,
             listed,
             bytes,
@@ -103,4 +112,5 @@ pub fn run(
             EIGHT * i,
         );
     }
+    state.live = own.live;
 }

@@ -1,4 +1,5 @@
 -- `runs::run` meets its contract. The invariant: the records so far are put, to the tables that were lent.
+use Rattle.std.proofs.Common.{rules}
 use mathlib.Core.Path.{◌≡◌, subst}
 use mathlib.Core.List.{List}
 use Prim.Native.Nat.{ℕ, ◌+◌, ◌*◌}
@@ -6,7 +7,9 @@ use native.Mathlib.Nat.{le_antisymm}
 use native.Mathlib.Numerals.{add-one}
 use native.Mathlib.Omega.{arith}
 use Rattle.types.specs.Limits.{most_nodes}
-use Rattle.types.specs.States.{State, Opened}
+use Rattle.types.specs.States.{State, held, Opened}
+use Rattle.types.specs.Lent.{held_by}
+use Rattle.types.specs.declared.state.State.{State as Lending}
 use Rattle.types.proofs.Lending.{same_tables, same_again}
 use Rattle.runs.specs.Putting.{Recorded, Puts}
 use Rattle.runs.proofs.run.Goals as goal
@@ -45,8 +48,15 @@ loop-i-preserved c = (
   same_again c.loop-i.invariant.1 c.put_bytes.ensures.same_tables,
 )
 
+-- the lent struct's tables end as the loop's own
+as_left : (t : Lending) {p r q tr n bytes listed answers listed' answers' : List ℕ} {from k : ℕ} {s : State} {o : Opened most_nodes s} →
+    p ≡ t.parent.now → r ≡ t.rank.now → q ≡ t.rows.now → tr ≡ t.trail.now → n ≡ t.nodes.now →
+    ((o' : Opened most_nodes (held_by t)) × Puts bytes from s o listed answers k (held_by t) o' listed' answers') →
+    (o' : Opened most_nodes (held p r q tr n t.live)) × Puts bytes from s o listed answers k (held p r q tr n t.live) o' listed' answers'
+as_left t a b c d e puts = rw (a, b, c, d, e) puts
+
 pub returns-clause-puts : goal.returns-clause-puts
 returns-clause-puts c =
     λ o.
     let (o', puts) = c.loop-i.invariant.0 o in
-    (o', all-put puts (le_antisymm c.loop-i.auto.i-end c.loop-i-test.false))
+    as_left c.loop-i.own (search rules) (search rules) (search rules) (search rules) (search rules) (o', all-put puts (le_antisymm c.loop-i.auto.i-end c.loop-i-test.false))

@@ -7,7 +7,7 @@ use Rattle.runs.proofs.run.Given as goal
 
 abbrev pub invariant-loop-i : goal.invariant-loop-i
 invariant-loop-i l =
-    ((o : Opened most_nodes (held_by l.initial.state)) →
-    (o' : Opened most_nodes (held_by l.state))
-    × Puts l.bytes l.from (held_by l.initial.state) o l.initial.listed l.initial.answers l.i (held_by l.state) o' l.listed l.answers)
-    × SameTables l.initial.state l.state
+    ((o : Opened most_nodes (held_by l.initial.own)) →
+    (o' : Opened most_nodes (held_by l.own))
+    × Puts l.bytes l.from (held_by l.initial.own) o l.initial.listed l.initial.answers l.i (held_by l.own) o' l.listed l.answers)
+    × SameTables l.initial.own l.own
