@@ -14,7 +14,7 @@ pub const RIGHT: usize = 2;
 
 pub const SHAPE: usize = 3;
 
-// The kinds, as a row has them. A number past 3 is read as a product.
+// The kinds, as a row has them: numbers, since the lent tables are of numbers. One past 3 is read as a product.
 pub const FREE: u16 = 0;
 
 pub const UNIT: u16 = 1;

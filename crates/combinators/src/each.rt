@@ -20,7 +20,7 @@ const ONE: u16 = 0;
 
 const POWER_256: u16 = 9;
 
-// The rules by their numbers in document 01. D = target s joins a fresh entry and has none.
+// The rules by their numbers in document 01, which answers and contracts have too. D = target s joins a fresh entry and has none.
 const NO_RULE: u16 = 0;
 
 const D_IS_TARGET: u16 = 0;

@@ -14,7 +14,7 @@ use texts::Unwritten;
 use types::limits::{ENTRIES, LISTING, NODE_ROWS, ROWS, TRAIL, WORK};
 use types::state::{self, Live, State};
 
-// What the record calls return.
+// What the record calls return: numbers, as C takes them.
 const DONE: u32 = 0;
 
 const WRONG_LENGTH: u32 = 1;
