@@ -4,7 +4,7 @@ use std::fmt;
 use types::Answer;
 
 // An answer in words.
-#[derive(Clone, Copy)]
+#[derive(Clone, Copy, Debug, PartialEq, Eq)]
 pub(super) struct Said(pub(super) Answer);
 
 impl fmt::Display for Said {
@@ -24,7 +24,7 @@ impl fmt::Display for Said {
 }
 
 // Numbers in a line, a space before each.
-#[derive(Clone, Copy)]
+#[derive(Clone, Copy, Debug, PartialEq, Eq)]
 struct Spaced<'a>(&'a [u16]);
 
 impl fmt::Display for Spaced<'_> {

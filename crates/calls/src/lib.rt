@@ -19,7 +19,7 @@ use types::state::{Live, State};
 use types::{Answer, state};
 
 // The state: the tables as arrays, and how much of them is in use.
-#[derive(Clone, Copy)]
+#[derive(Clone, Copy, Debug, PartialEq, Eq)]
 pub struct Owned {
     pub parent: [u16; ENTRIES],
     pub rank: [u16; ENTRIES],
@@ -30,14 +30,14 @@ pub struct Owned {
 }
 
 // An answer and the state after it.
-#[derive(Clone, Copy)]
+#[derive(Clone, Copy, Debug, PartialEq, Eq)]
 pub struct After {
     pub answer: Answer,
     pub state: Owned,
 }
 
 // A closing's answer, its listing with 0 past the end, and the state, which is the one that was given.
-#[derive(Clone, Copy)]
+#[derive(Clone, Copy, Debug, PartialEq, Eq)]
 pub struct Listed {
     pub answer: Answer,
     pub listing: [u16; LISTING],

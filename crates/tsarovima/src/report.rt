@@ -15,7 +15,7 @@ const TAKE_BACK: u8 = 64;
 const CLOSE: u8 = 65;
 
 // A rule by its number, which prints as its text.
-#[derive(Clone, Copy)]
+#[derive(Clone, Copy, Debug, PartialEq, Eq)]
 struct Rule(u16);
 
 impl fmt::Display for Rule {
@@ -30,7 +30,7 @@ impl fmt::Display for Rule {
 }
 
 // What became of a record, by its kind and its answer's three numbers.
-#[derive(Clone, Copy)]
+#[derive(Clone, Copy, Debug, PartialEq, Eq)]
 struct Answered {
     kind: u8,
     code: u16,
@@ -74,7 +74,7 @@ impl fmt::Display for Answered {
 }
 
 // What a type is made of, by its three numbers in the listing.
-#[derive(Clone, Copy)]
+#[derive(Clone, Copy, Debug, PartialEq, Eq)]
 struct Made([u16; 3]);
 
 impl fmt::Display for Made {

@@ -26,7 +26,7 @@ use nodes::kept::{ENTRIES_BEFORE, LINKS_BEFORE, NODE};
 const STANDING: u16 = 33;
 
 // How much of the tables is in use.
-#[derive(Clone, Copy)]
+#[derive(Clone, Copy, Debug, PartialEq, Eq)]
 pub struct Live {
     pub entries: u16,
     pub links: u16,
