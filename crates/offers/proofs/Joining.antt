@@ -42,12 +42,6 @@ pub some_left : (t : Table) (rs : List Numbered) (first : Numbered) (n : ℕ) �
 some_left t rs first ℕ.zero l not = absurd (not refl)
 some_left t rs first (ℕ.suc n) l not = l
 
--- where some are left, the first is at hand and the others are there
-pub left_there : (t : Table) (rs : List Numbered) (first : Numbered) (n i : ℕ) → Left t rs n first → i < n → (n ≡ length rs) × (i < length rs) × (first ≡ get_or rs 0 (says 0 0 0))
-left_there t rs first n i l h =
-    let some = some_left t rs first n l (λ (z : n ≡ 0). omega arith) in
-    (some.0, omega (arith, some.0), some.1)
-
 pub record Joins (t₀ : Table) (rs : List Numbered) (t : Table) (pending : List ℕ) (i : ℕ) : Type 0 where
   pub made : Made t
   pub named : Named t.entries rs
