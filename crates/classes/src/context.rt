@@ -190,9 +190,7 @@ fn take_turn(
     }
     let higher = union_bound::raised(rank, two);
     let shape = union_bound::shows(rows, two);
-    union_bound::link(
-        parent, rank, rows, trail, links, two.below, two.stands, higher, shape,
-    );
+    union_bound::link(parent, rank, rows, trail, links, two, higher, shape);
     let waiting = push_parts(pending, top, met);
     let links = links + 1;
     Some(Going { waiting, links })

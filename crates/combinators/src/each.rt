@@ -63,20 +63,19 @@ fn enter_without_rules<const N: usize>(
     links: u16,
     e: u16,
     bounds: [Bound; N],
-    source: u16,
-    target: u16,
+    gives: Arrow,
 ) -> Placed
     requires { Room (part parent.old rows.old e links) bounds }
     ensures { let was = part parent.old rows.old e links in
         let is = part parent.new rows.new result.entries links in
-        Enters was (without_rules bounds.entry (arrow source target)) result is }
+        Enters was (without_rules bounds.entry gives) result is }
 {
     let entries = add(parent, rows, links, e, bounds);
     Placed {
         entries,
-        gives: Arrow { source, target },
+        gives,
         rules: 0,
-        first: says(NO_RULE, source, target),
+        first: says(NO_RULE, gives.source, gives.target),
     }
 }
 
@@ -117,7 +116,11 @@ pub(super) fn iden(parent: &mut [u16], rows: &mut [u16], links: u16, e: u16) -> 
         let is = part parent.new rows.new result.entries links in
         Enters was (leaf Iden e) result is }
 {
-    enter_without_rules(parent, rows, links, e, [Bound::Free], e, e)
+    let gives = Arrow {
+        source: e,
+        target: e,
+    };
+    enter_without_rules(parent, rows, links, e, [Bound::Free], gives)
 }
 
 // A → 1.
@@ -127,7 +130,11 @@ pub(super) fn unit(parent: &mut [u16], rows: &mut [u16], links: u16, e: u16) -> 
         let is = part parent.new rows.new result.entries links in
         Enters was (leaf Unit e) result is }
 {
-    enter_without_rules(parent, rows, links, e, [Bound::Free], e, ONE)
+    let gives = Arrow {
+        source: e,
+        target: ONE,
+    };
+    enter_without_rules(parent, rows, links, e, [Bound::Free], gives)
 }
 
 // A → B + C, where s : A → B.
@@ -138,7 +145,11 @@ pub(super) fn injl(parent: &mut [u16], rows: &mut [u16], links: u16, s: Arrow, e
         Enters was (unary InjL s e) result is }
 {
     let b = Bound::Sum(s.target, e);
-    enter_without_rules(parent, rows, links, e, [Bound::Free, b], s.source, e + 1)
+    let gives = Arrow {
+        source: s.source,
+        target: e + 1,
+    };
+    enter_without_rules(parent, rows, links, e, [Bound::Free, b], gives)
 }
 
 // A → B + C, where s : A → C.
@@ -149,7 +160,11 @@ pub(super) fn injr(parent: &mut [u16], rows: &mut [u16], links: u16, s: Arrow, e
         Enters was (unary InjR s e) result is }
 {
     let b = Bound::Sum(e, s.target);
-    enter_without_rules(parent, rows, links, e, [Bound::Free, b], s.source, e + 1)
+    let gives = Arrow {
+        source: s.source,
+        target: e + 1,
+    };
+    enter_without_rules(parent, rows, links, e, [Bound::Free, b], gives)
 }
 
 // A × B → C, where s : A → C.
@@ -160,7 +175,11 @@ pub(super) fn take(parent: &mut [u16], rows: &mut [u16], links: u16, s: Arrow, e
         Enters was (unary Take s e) result is }
 {
     let b = Bound::Product(s.source, e);
-    enter_without_rules(parent, rows, links, e, [Bound::Free, b], e + 1, s.target)
+    let gives = Arrow {
+        source: e + 1,
+        target: s.target,
+    };
+    enter_without_rules(parent, rows, links, e, [Bound::Free, b], gives)
 }
 
 // A × B → C, where s : B → C.
@@ -171,7 +190,11 @@ pub(super) fn drop(parent: &mut [u16], rows: &mut [u16], links: u16, s: Arrow, e
         Enters was (unary Drop s e) result is }
 {
     let b = Bound::Product(e, s.source);
-    enter_without_rules(parent, rows, links, e, [Bound::Free, b], e + 1, s.target)
+    let gives = Arrow {
+        source: e + 1,
+        target: s.target,
+    };
+    enter_without_rules(parent, rows, links, e, [Bound::Free, b], gives)
 }
 
 // A → C, where s : A → B and t : B → C. It adds no entry.
@@ -390,7 +413,11 @@ pub(super) fn witness(parent: &mut [u16], rows: &mut [u16], links: u16, e: u16) 
         let is = part parent.new rows.new result.entries links in
         Enters was (leaf Witness e) result is }
 {
-    enter_without_rules(parent, rows, links, e, [Bound::Free, Bound::Free], e, e + 1)
+    let gives = Arrow {
+        source: e,
+        target: e + 1,
+    };
+    enter_without_rules(parent, rows, links, e, [Bound::Free, Bound::Free], gives)
 }
 
 // 1 → 2^(2^n). It adds no entry.

@@ -5,9 +5,8 @@ ghost use Rattle.std.specs.Prelude.{◌≡◌, ◌++◌, ◌+◌, ◌*◌, ◌�
 ghost use Rattle.types.specs.Closings.{no_listing};
 ghost use Rattle.formats.specs.Shown.{found_types, settled, end_of};
 
+use nodes::records::CLOSE;
 use types::Answer;
-
-const CLOSING: u8 = 65;
 
 // A listing begins with how many nodes and types it has, and where the types and the arrows stand. This one has neither.
 const NO_LISTING: [u16; 4] = [0, 0, 4, 4];
@@ -35,7 +34,7 @@ pub fn settle(listed: &mut [u16], kind: u8, answer: Answer)
     requires { 4 ≤ length listed.old }
     ensures { listed.new ≡ settled kind answer listed.old }
 {
-    if kind == CLOSING && !found_types(answer) {
+    if kind == CLOSE && !found_types(answer) {
         clear(listed);
     }
 }

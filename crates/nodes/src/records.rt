@@ -15,6 +15,11 @@ use super::{Asks, Coded, Kind};
 // The largest n of a word: 2^(2^31).
 pub const LARGEST_WORD: u16 = 31;
 
+// The kinds of the two records that are no nodes.
+pub const TAKE_BACK: u8 = 64;
+
+pub const CLOSE: u8 = 65;
+
 // A field that must be zero.
 fn unless(field: u16, asked: Asks) -> Asks
     ensures { (x : Record) → asked ≡ asks x → result ≡ asks (spare field x) }
@@ -77,8 +82,8 @@ fn request(kind: u8, a: u16, b: u16) -> Asks
     ensures { result ≡ asks (by_kind kind a b) }
 {
     match kind {
-        64 => unless(b, Asks::TakeBack),
-        65 => unless(a, unless(b, Asks::Close)),
+        TAKE_BACK => unless(b, Asks::TakeBack),
+        CLOSE => unless(a, unless(b, Asks::Close)),
         _ => Asks::Malformed,
     }
 }

@@ -5,14 +5,11 @@ ghost use Rattle.std.specs.Prelude.{◌<◌};
 
 use super::page::Page;
 use headers::{EIGHT, HEADER};
+use nodes::records::{CLOSE, TAKE_BACK};
 use std::{fmt, io};
 
 // The longest of the rules' texts.
 const LONGEST: usize = 47;
-
-const TAKE_BACK: u8 = 64;
-
-const CLOSE: u8 = 65;
 
 // A rule by its number, which prints as its text.
 #[derive(Clone, Copy, Debug, PartialEq, Eq)]

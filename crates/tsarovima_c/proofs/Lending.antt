@@ -18,9 +18,6 @@ use Rattle.runs.specs.Putting.{Recorded, Puts}
 use Rattle.tsarovima_c.specs.Lent.{tables, state_of, Denies, Sized, OpenedBy, Lent, lent, Long, RecordedBy}
 
 -- a flag that is written out says what holds
-pub denies : {P : Type 0} → (P → ⊥) → Denies true P
-denies h = (λ e. h, λ e. let z : ◌≡◌ {A = ℕ} 0 1 = cc in absurd (omega arith))
-
 pub admits : {P : Type 0} → P → Denies false P
 admits h = (λ e. let z : ◌≡◌ {A = ℕ} 0 1 = cc in absurd (omega arith), λ e. h)
 

@@ -10,6 +10,7 @@ ghost use Rattle.tsarovima_c.specs.Lent.{RunBy, Denies, Tables, tables, TableLen
 ghost use Rattle.tsarovima_c.specs.Lent.{Lent, lent, RoomLengths, OpenedIfLong, RecordedBy, closing_bytes, TextBy};
 
 use headers::EIGHT;
+use nodes::records::CLOSE;
 use texts::Unwritten;
 use types::limits::{ENTRIES, LISTING, NODE_ROWS, ROWS, TRAIL, WORK};
 use types::state::{self, Live, State};
@@ -23,7 +24,7 @@ const WRONG_LENGTH: u32 = 1;
 const LIVE: usize = 3;
 
 // The record that closes.
-const CLOSING: [u8; 8] = [65, 0, 0, 0, 0, 0, 0, 0];
+const CLOSING: [u8; 8] = [CLOSE, 0, 0, 0, 0, 0, 0, 0];
 
 // Runs a job: 0, or a refusal 16 to 22 with both buffers as they were.
 pub fn tsarovima_job(job: &[u8], answers: &mut [u8], listing: &mut [u16]) -> u32

@@ -6,11 +6,11 @@ use Rattle.classes.proofs.union_bound.link.Goals as goal
 
 pub returns : goal.returns
 returns c =
-    let kept = column_kept c.args.rows.now c.args.stands shape_at c.args.shows (omega arith) in
+    let kept = column_kept c.args.rows.now c.args.two.stands shape_at c.args.shows (omega arith) in
     λ e n. rw (
-      column_set c.args.rows.now c.args.stands shape_at c.args.shows (omega arith),
+      column_set c.args.rows.now c.args.two.stands shape_at c.args.shows (omega arith),
       kept kind_at (omega arith) (omega arith),
       kept left_at (omega arith) (omega arith),
       kept right_at (omega arith) (omega arith),
-      cell shape_at c.args.rows.now c.args.stands c.requires.2,
+      cell shape_at c.args.rows.now c.args.two.stands c.requires.2,
     )
