@@ -1,6 +1,6 @@
 -- What a host lends: looked at, cleared, opened, and with its counts.
 use mathlib.Core.Path.{◌≡◌, sym, ap, ◌∙◌, subst, subst₂}
-use mathlib.Core.Bool.{true, false}
+use mathlib.Core.Bool.{false}
 use mathlib.Core.List.{List, [], ◌∷◌}
 use Prim.Native.Nat.{ℕ, ◌*◌, ◌^◌, ◌≤◌, ◌<◌}
 use native.Mathlib.Omega.{arith}

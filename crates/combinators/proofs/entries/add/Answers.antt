@@ -1,7 +1,6 @@
 -- `combinators::entries::add` meets its contract. A turn: its entry is there, and it is added.
 use mathlib.Core.Path.{◌≡◌, refl}
 use Prim.Native.Nat.{ℕ}
-use native.Mathlib.Omega.{arith}
 use lib.ListN.{length}
 use Rattle.combinators.specs.Entering.{Part, part}
 use Rattle.combinators.proofs.EachEntry.{adding_begins, adding_answer, adding_small, adding_again, adding_ends}
