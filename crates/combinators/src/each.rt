@@ -363,7 +363,8 @@ pub(super) fn disconnect(
     }
 }
 
-// Its rules, and those of one whose second child is a hole: source s = 2^256 × A and target s = B × C, which are the entries `first` and `second`.
+// Its rules, and those of one whose second child is a hole: source s = 2^256 × A and target s = B × C, which are the entries `first` and
+// `second`.
 pub(super) fn disconnect_rule(s: Arrow, first: u16, second: u16, i: u16) -> Rule
     requires { i < 2 }
     ensures { meant_rule result ≡ get_or (says 6 s.source first ∷ says 7 s.target second ∷ []) i (says 0 0 0) }

@@ -5,7 +5,7 @@
 
 ghost use Rattle.std.specs.Prelude.{◌≡◌, true, false, ℕ, ◌+◌, ◌*◌, ◌≤◌, ◌<◌, length, get_or};
 ghost use Rattle.classes.specs.Promises.{made_links};
-ghost use Rattle.nodes.specs.Layout.{says, children, Proper};
+ghost use Rattle.nodes.specs.Layout.{children, Proper};
 ghost use Rattle.nodes.specs.Layout.{arrow as from_to};
 ghost use Rattle.nodes.specs.Coded.{node_of, Regular};
 ghost use Rattle.nodes.specs.Kept.{node_width, row_numbers, source_at, target_at};

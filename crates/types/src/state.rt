@@ -109,8 +109,11 @@ impl State<'_> {
     // Closes: the listing is written into `listed`, and no table changes. Working memory: four numbers for each entry.
     pub fn close(&self, work: &mut [u16], listed: &mut [u16]) -> Answer
         requires by_index { (most : ℕ) × (rank trail : List ℕ) × Opened most (held_with self.now rank trail) }
-        requires entries_bound { (4 + 3 * self.now.live.entries < 2 ^ 16) × (4 * self.now.live.entries ≤ length work.old) × (4 + 3 * self.now.live.entries + 2 * self.now.live.kept ≤ length listed.old) }
-        ensures { (most : ℕ) (rank trail : List ℕ) (o : Opened most (held_with self.now rank trail)) → Closing most o.nodes listed.old result listed.new }
+        requires entries_bound { (4 + 3 * self.now.live.entries < 2 ^ 16)
+            × (4 * self.now.live.entries ≤ length work.old)
+            × (4 + 3 * self.now.live.entries + 2 * self.now.live.kept ≤ length listed.old) }
+        ensures { (most : ℕ) (rank trail : List ℕ) (o : Opened most (held_with self.now rank trail)) →
+            Closing most o.nodes listed.old result listed.new }
     {
         close(self.parent, self.rows, self.nodes, work, listed, self.live)
     }
@@ -125,8 +128,11 @@ pub fn close(
     listed: &mut [u16],
     live: Live,
 ) -> Answer
-    requires by_index { (most : ℕ) × (rank trail : List ℕ) × Opened most (held parent.now rank rows.now trail nodes.now live) }
-    requires entries_bound { (4 + 3 * live.entries < 2 ^ 16) × (4 * live.entries ≤ length work.old) × (4 + 3 * live.entries + 2 * live.kept ≤ length listed.old) }
+    requires by_index { (most : ℕ) × (rank trail : List ℕ)
+        × Opened most (held parent.now rank rows.now trail nodes.now live) }
+    requires entries_bound { (4 + 3 * live.entries < 2 ^ 16)
+        × (4 * live.entries ≤ length work.old)
+        × (4 + 3 * live.entries + 2 * live.kept ≤ length listed.old) }
     ensures { (most : ℕ) (rank trail : List ℕ) (o : Opened most (held parent.now rank rows.now trail nodes.now live)) →
         Closing most o.nodes listed.old result listed.new }
 {
