@@ -1,5 +1,7 @@
 // What is read from standard input, and what is written to standard output of answers and listings.
 
+ghost use Rattle.std.specs.Prelude.{◌-◌, ◌*◌, ◌≤◌, length};
+
 use super::Ended;
 use headers::{EIGHT, HEADER};
 use std::io::Read;
@@ -20,7 +22,9 @@ pub(super) fn opening(input: &mut impl Read, bytes: &mut [u8]) -> Result<[usize;
 }
 
 // A job's records.
-pub(super) fn records(job: &[u8]) -> &[[u8; EIGHT]] {
+pub(super) fn records(job: &[u8]) -> &[[u8; EIGHT]]
+    ensures { 8 * length result.now ≤ length job.now - 16 }
+{
     let (records, _) = job.get(HEADER..).unwrap_or(&[]).as_chunks::<EIGHT>();
     records
 }
