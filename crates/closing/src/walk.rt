@@ -88,7 +88,7 @@ fn complete(
 }
 
 // Looks at the parts of the class at the top, left before right. It stands in the walk itself: as a call it would hand its result over in
-// memory, written as two numbers of two bytes and read as one of four, and at each step the processor would wait for that.
+// memory, written as two numbers of two bytes and read as one of four, and for each sum or product the processor would wait for that.
 #[inline(always)]
 fn part(
     work: &mut [u16],

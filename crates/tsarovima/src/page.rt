@@ -10,7 +10,7 @@ const PAGE: usize = 8192;
 const LINE: usize = 128;
 
 // Lines, and what they will be written to. What is gathered ends at `end`. A line's pieces are put there by `write_str`: by way of a
-// `Cursor` of std a report took two and a half times as long.
+// `Cursor` of std a report took up to two and a half times as long.
 #[derive(Drop)]
 pub(super) struct Page<'a, P> {
     rt: &'a P,
