@@ -39,7 +39,7 @@ fn close(rt: &impl Print, s: Owned) -> Owned
 {
     let closed = calls::close(s);
     let answer = Said(closed.answer);
-    // Taken out before it is lent: lent where it stands, it had the compiler make room for one state and listing more.
+    // Taken out before it is lent: lent where it stands, it had the compiler make room for one state more.
     let listing = closed.listing;
     let _ = println!(rt; "close: {answer}");
     say::listing(rt, &listing);

@@ -34,7 +34,7 @@ fn fill<T: Pattern>(lent: &mut [T]) {
 }
 
 // Whether all from a place on is as it was lent. It stays a call of its own: where the compiler put it into the loop over the items, a
-// lending took a third more time.
+// lending took a fifth more time.
 #[inline(never)]
 fn is_as_lent<T: Pattern>(lent: &[T], from: usize) -> bool {
     (from..lent.len()).all(|i| lent[i] == T::at(i))
